@@ -1,0 +1,12 @@
+-- `primitive::queue::clear` meets its contract. Assumes nothing.
+use Rattle.primitive.specs.Queue.{emptied}
+use borrow.Author.Needs.{needs}
+use Rattle.primitive.proofs.queue.clear.Statement.{statement}
+use Rattle.primitive.proofs.queue.clear.Tie as tie
+
+returns : tie.Need-returns
+unfolding emptied
+returns c = search needs
+
+pub clear-spec : {M : Type 1} → statement M
+clear-spec = tie.close (tie.spec (λ c κs. search needs) (λ c. search needs) returns)
