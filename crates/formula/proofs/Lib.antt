@@ -1,0 +1,10 @@
+pub mod CellLaws
+pub mod ScanLaws
+pub mod LegalLaws
+pub mod Written
+pub mod Laid
+pub mod Unique
+pub mod Exact
+pub mod Ends
+pub mod Local
+pub mod Examples

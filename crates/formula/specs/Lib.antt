@@ -1,0 +1,4 @@
+pub mod Cells
+pub mod Trees
+pub mod Legal
+pub mod Names
