@@ -6,7 +6,7 @@ use Prim.Native.Nat.{ℕ, zero, suc, _*_, _/_, _%_, _≤_}
 use lib.Dec.{eqb, leb, ltb}
 use lib.IntN.{ℤ}
 use lib.ListN.{length, getD}
-use Rattle.primitive.specs.Rows.{field}
+use Rattle.primitive.specs.Words.{COUNT, KIND, SIGNAL, COMPUTED, node}
 use Rattle.formula.specs.declared.cells.Cell.{Cell}
 use Rattle.formula.specs.declared.cells.Number.{Number}
 use Rattle.formula.specs.declared.cells.Number.the-variants.{Is, None}
@@ -20,13 +20,13 @@ mostCells = 64
 abbrev pub mostNesting : ℕ
 mostNesting = 16
 
--- signals (kind 1) and computeds (kind 2) can be read
+-- signals and computeds can be read
 unfoldable pub readKind : ℕ → Bool
-readKind kind = elim (eqb kind 1) [ true ↦ true | false ↦ eqb kind 2 ]
+readKind kind = elim (eqb kind SIGNAL) [ true ↦ true | false ↦ eqb kind COMPUTED ]
 
--- n is an existing signal or computed: word 7 of the header is the number of nodes, field 1 a node's kind
+-- n is an existing signal or computed
 unfoldable pub readableIn : List ℕ → ℕ → Bool
-readableIn nodes n = elim (ltb n (getD nodes 7 0)) [ true ↦ readKind (field 16 nodes n 1) | false ↦ false ]
+readableIn nodes n = elim (ltb n (getD nodes COUNT 0)) [ true ↦ readKind (node nodes n KIND) | false ↦ false ]
 
 abbrev pub AllReadable : List ℕ → List ℕ → Type 0
 AllReadable nodes [] = Unit {0}

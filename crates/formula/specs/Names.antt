@@ -3,7 +3,7 @@ use mathlib.Core.List.{List, [], _∷_}
 use Prim.Native.Nat.{ℕ, zero, suc, _/_, max}
 use lib.IntN.{ℤ}
 use lib.ListN.{length}
-use Rattle.primitive.specs.Rows.{field}
+use Rattle.primitive.specs.Words.{LEVEL, node}
 use Rattle.formula.specs.declared.cells.Cell.{Cell}
 use Rattle.formula.specs.Cells.{nameOf, cellAt, orElse}
 
@@ -19,10 +19,10 @@ allNamed ws = named ws (length ws / 2) 0
 unfoldable pub readCells : List ℤ → ℕ
 readCells ws = length (allNamed ws)
 
--- the greatest height among nodes, 0 if there are none; the height of a node stands in field 11
+-- the greatest height among nodes, 0 if there are none
 unfoldable pub tallest : List ℕ → List ℕ → ℕ
 tallest nodes [] = 0
-tallest nodes (n ∷ ns) = max (field 16 nodes n 11) (tallest nodes ns)
+tallest nodes (n ∷ ns) = max (node nodes n LEVEL) (tallest nodes ns)
 
 unfoldable pub tallestIn : List ℕ → List ℤ → ℕ
 tallestIn nodes ws = tallest nodes (allNamed ws)
@@ -36,4 +36,4 @@ unfoldable pub isRead : Cell → ℕ
 isRead c = orElse (nameOf c) 0 (λ (n : ℕ). 1)
 
 unfoldable pub tallerIn : List ℕ → Cell → ℕ → ℕ
-tallerIn nodes c most = orElse (nameOf c) most (λ (n : ℕ). max most (field 16 nodes n 11))
+tallerIn nodes c most = orElse (nameOf c) most (λ (n : ℕ). max most (node nodes n LEVEL))

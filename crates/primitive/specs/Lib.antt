@@ -4,3 +4,4 @@ pub mod Rows
 pub mod Slots
 pub mod Stack
 pub mod Values
+pub mod Words
