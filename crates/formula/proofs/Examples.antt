@@ -12,7 +12,7 @@ use Rattle.formula.specs.declared.cells.Op.the-variants.{Sum, Difference
 use Rattle.formula.specs.Cells.{readOf, bareOf, codes, cellOf, arityOf, nameOf, cellAt, settled, endOf}
 use Rattle.formula.specs.Legal.{readKind, readableIn, knownIn, takesIn, inTurn, oneAt, legalIn}
 use Rattle.formula.specs.Names.{named, allNamed, readCells, tallest, tallestIn, heightIn}
-use Rattle.formula.specs.Trees.{Tree, constant, read, two, choose, written, apply, worth, reads, names}
+use Rattle.formula.specs.Trees.{Tree, constant, read, two, choose, codeOf, written, apply, chosen, worth, reads, names}
 
 -- ---- what a tree is worth. Node n is worth n.
 env : ℕ → Value
@@ -23,11 +23,11 @@ branch : ℕ → Tree
 branch n = choose (read n) (two Sum (read 3) (read 4)) (two Difference (read 5) (read 6))
 
 first-nonzero : (worth (branch 2) env ≡ value (pos 7)) × (reads (branch 2) env ≡ 2 ∷ 3 ∷ 4 ∷ [])
-unfolding env branch worth reads apply isZero same sameNumber sum difference clamp
+unfolding env branch worth reads apply chosen isZero same sameNumber sum difference clamp
 first-nonzero = (refl, refl)
 
 first-zero : (worth (branch 0) env ≡ value (negsuc 0)) × (reads (branch 0) env ≡ 0 ∷ 5 ∷ 6 ∷ [])
-unfolding env branch worth reads apply isZero same sameNumber sum difference clamp
+unfolding env branch worth reads apply chosen isZero same sameNumber sum difference clamp
 first-zero = (refl, refl)
 
 -- it names the branch it does not take, too
@@ -58,11 +58,18 @@ ordered : (worth (two Less (constant (negsuc 4)) (constant (pos 0))) env ≡ val
 unfolding env worth apply less minimum maximum
 ordered = (refl, refl, refl, refl)
 
--- ---- which cells are legal. Node 0 is a signal, node 1 a computed of height 3, node 2 an effect.
+-- ---- the eight cells as document 01 numbers them
+numbered : (worth (constant (pos 7)) env ≡ value (pos 7)) × (written (constant (pos 7)) ≡ pos 1 ∷ pos 7 ∷ []) × (written (read 4) ≡ pos 2 ∷ pos 4 ∷ [])
+    × (codeOf Sum ≡ 3) × (codeOf Difference ≡ 4) × (codeOf Minimum ≡ 5) × (codeOf Maximum ≡ 6) × (codeOf Less ≡ 7)
+    × (written (choose (read 1) (read 2) (read 3)) ≡ pos 8 ∷ pos 0 ∷ pos 2 ∷ pos 1 ∷ pos 2 ∷ pos 2 ∷ pos 2 ∷ pos 3 ∷ [])
+unfolding env worth written
+numbered = (refl, refl, refl, refl, refl, refl, refl, refl, refl)
+
+-- ---- which cells are legal. Node 0 is a signal, node 1 a computed of height 3, node 2 an effect, node 3 a scope.
 nodes : List ℕ
 nodes =
-    (replicate 7 0 ++ 3 ∷ replicate 8 0)
-    ++ ((0 ∷ 1 ∷ replicate 14 0) ++ ((0 ∷ 2 ∷ replicate 9 0) ++ 3 ∷ replicate 4 0) ++ (0 ∷ 3 ∷ replicate 14 0))
+    (replicate 7 0 ++ 4 ∷ replicate 8 0)
+    ++ ((0 ∷ 1 ∷ replicate 14 0) ++ ((0 ∷ 2 ∷ replicate 9 0) ++ 3 ∷ replicate 4 0) ++ (0 ∷ 3 ∷ replicate 14 0) ++ (0 ∷ 4 ∷ replicate 14 0))
 
 -- a chain of n sums in the first argument: nesting n + 1, 2 n + 1 cells
 chain : ℕ → Tree
@@ -93,10 +100,10 @@ two-trees : legal (written (read 0) ++ written (read 1)) ≡ false
 unfolding legal nodes written legalIn oneAt inTurn takesIn knownIn nameOf arityOf cellAt cellOf codes readOf bareOf readableIn readKind field hasField
 two-trees = refl
 
--- an effect, a node that is not there, a negative number
-no-read : (legal (written (read 2)) ≡ false) × (legal (written (read 3)) ≡ false) × (legal (pos 2 ∷ negsuc 0 ∷ []) ≡ false)
+-- an effect, a scope, a node that is not there, a negative number
+no-read : (legal (written (read 2)) ≡ false) × (legal (written (read 3)) ≡ false) × (legal (written (read 4)) ≡ false) × (legal (pos 2 ∷ negsuc 0 ∷ []) ≡ false)
 unfolding legal nodes written legalIn oneAt inTurn takesIn knownIn nameOf arityOf cellAt cellOf codes readOf bareOf readableIn readKind field hasField
-no-read = (refl, refl, refl)
+no-read = (refl, refl, refl, refl)
 
 -- an operand where there is none to carry
 odd-operand : legal (pos 3 ∷ pos 1 ∷ pos 1 ∷ pos 0 ∷ pos 1 ∷ pos 0 ∷ []) ≡ false

@@ -1,3 +1,4 @@
+pub mod Examples
 pub mod CellLaws
 pub mod ScanLaws
 pub mod LegalLaws
@@ -7,4 +8,3 @@ pub mod Unique
 pub mod Exact
 pub mod Ends
 pub mod Local
-pub mod Examples

@@ -6,7 +6,7 @@ use mathlib.Core.List.{List, [], _∷_, _++_}
 use Prim.Native.Nat.{ℕ}
 use Rattle.primitive.specs.declared.values.Value.{Value}
 use Rattle.primitive.specs.Values.{isZero}
-use Rattle.formula.specs.Trees.{Tree, constant, read, two, choose, apply, worth, reads}
+use Rattle.formula.specs.Trees.{Tree, constant, read, two, choose, apply, chosen, worth, reads}
 
 -- two environments agree on every node of a list
 abbrev pub Agree : (ℕ → Value) → (ℕ → Value) → List ℕ → Type 0
@@ -21,16 +21,18 @@ pub agree-right : (d e : ℕ → Value) (xs ys : List ℕ) → Agree d e (xs ++ 
 agree-right d e [] ys h = h
 agree-right d e (x ∷ xs) ys h = agree-right d e xs ys (h .1)
 
--- of two branches, each of which keeps its value and its reads, the one that is taken does
-branches : (d e : ℕ → Value) (x y : Bool) → x ≡ y → {v v′ w w′ : Value} {p p′ q q′ : List ℕ}
-    → Agree d e (elim x [ true ↦ p | false ↦ q ])
-    → (Agree d e p → (v ≡ v′) × (p ≡ p′)) → (Agree d e q → (w ≡ w′) × (q ≡ q′))
-    → _≡_ {A = Value} (elim x [ true ↦ v | false ↦ w ]) (elim y [ true ↦ v′ | false ↦ w′ ])
-    × _≡_ {A = List ℕ} (elim x [ true ↦ p | false ↦ q ]) (elim y [ true ↦ p′ | false ↦ q′ ])
-branches d e true true s h f g = f h
-branches d e false false s h f g = g h
-branches d e true false s h f g = (cc, cc)
-branches d e false true s h f g = (cc, cc)
+-- of two branches, each of which keeps its value and its reads, the one that is chosen does
+branches : (d e : ℕ → Value) (c c′ : Value) → c ≡ c′ → {v v′ w w′ : Value} {p p′ q q′ : List ℕ}
+    → (Agree d e p → (v ≡ v′) × (p ≡ p′)) → (Agree d e q → (w ≡ w′) × (q ≡ q′)) → Agree d e (chosen c p q)
+    → (chosen c v w ≡ chosen c′ v′ w′) × (chosen c p q ≡ chosen c′ p′ q′)
+unfolding chosen
+branches d e c c′ s {v} {v′} {w} {w′} {p} {p′} {q} {q′} f g = rw (← s) (go (isZero c))
+  where
+    go : (b : Bool) → Agree d e (elim b [ true ↦ q | false ↦ p ])
+        → _≡_ {A = Value} (elim b [ true ↦ w | false ↦ v ]) (elim b [ true ↦ w′ | false ↦ v′ ])
+        × _≡_ {A = List ℕ} (elim b [ true ↦ q | false ↦ p ]) (elim b [ true ↦ q′ | false ↦ p′ ])
+    go true = g
+    go false = f
 
 pub local : (d e : ℕ → Value) (t : Tree) → Agree d e (reads t d) → (worth t d ≡ worth t e) × (reads t d ≡ reads t e)
 unfolding worth reads
@@ -42,5 +44,5 @@ local d e (two o a b) h =
     (ap₂ (apply o) (p .0) (q .0), ap₂ _++_ (p .1) (q .1))
 local d e (choose c a b) h =
     let p = local d e c (agree-left d e (reads c d) _ h) in
-    let q = branches d e (isZero (worth c d)) (isZero (worth c e)) (ap isZero (p .0)) (agree-right d e (reads c d) _ h) (local d e b) (local d e a) in
+    let q = branches d e (worth c d) (worth c e) (p .0) (local d e a) (local d e b) (agree-right d e (reads c d) _ h) in
     (q .0, ap₂ _++_ (p .1) (q .1))

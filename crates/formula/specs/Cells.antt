@@ -1,4 +1,4 @@
--- One cell: a code and an operand. The table of codes stands here, and nowhere else.
+-- One cell: a code and an operand. The table of codes, by which cells are read; `written` of Trees writes them, and a law ties the two.
 use Prim.Native.Nat.{ℕ, zero, suc, _+_, _*_, _-_, _/_}
 use mathlib.Core.Bool.{Bool, true, false}
 use mathlib.Core.List.{List}

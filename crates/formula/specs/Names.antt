@@ -27,6 +27,10 @@ tallest nodes (n ∷ ns) = max (node nodes n LEVEL) (tallest nodes ns)
 unfoldable pub tallestIn : List ℕ → List ℤ → ℕ
 tallestIn nodes ws = tallest nodes (allNamed ws)
 
+-- the greatest height that a computed may have
+abbrev pub mostHeight : ℕ
+mostHeight = 64
+
 -- the height of a computed with these cells: 1 + the greatest height that they name, 1 if they name none
 unfoldable pub heightIn : List ℕ → List ℤ → ℕ
 heightIn nodes ws = suc (tallestIn nodes ws)

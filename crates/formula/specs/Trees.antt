@@ -56,16 +56,20 @@ apply Minimum a b = minimum a b
 apply Maximum a b = maximum a b
 apply Less a b = less a b
 
--- what a tree is worth where node n is worth env n; choose: first nonzero, the second, else the third
+-- choose: where the first is not zero the second, else the third
+unfoldable pub chosen {ℓ} : {A : Type ℓ} → Value → A → A → A
+chosen v x y = elim (isZero v) [ true ↦ y | false ↦ x ]
+
+-- what a tree is worth where node n is worth env n
 unfoldable pub worth : Tree → (ℕ → Value) → Value
 worth (constant k) env = value k
 worth (read n) env = env n
 worth (two o a b) env = apply o (worth a env) (worth b env)
-worth (choose c a b) env = elim (isZero (worth c env)) [ true ↦ worth b env | false ↦ worth a env ]
+worth (choose c a b) env = chosen (worth c env) (worth a env) (worth b env)
 
 -- the nodes that working it out reads, in order: arguments left to right, and of choose only the branch it takes
 unfoldable pub reads : Tree → (ℕ → Value) → List ℕ
 reads (constant k) env = []
 reads (read n) env = n ∷ []
 reads (two o a b) env = reads a env ++ reads b env
-reads (choose c a b) env = reads c env ++ elim (isZero (worth c env)) [ true ↦ reads b env | false ↦ reads a env ]
+reads (choose c a b) env = reads c env ++ chosen (worth c env) (reads a env) (reads b env)

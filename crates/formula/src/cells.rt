@@ -1,4 +1,4 @@
-// One cell: a code and an operand. The table of codes stands here, and nowhere else.
+// One cell: a code and an operand, and the table of codes.
 use primitive::words;
 ghost use mathlib.Core.Path.{_≡_};
 ghost use Rattle.formula.specs.Cells.{naturalOf, cellOf, bareOf, readOf, arityOf, nameOf, cellAt, endOf};
@@ -21,7 +21,7 @@ pub enum Cell {
     Bad,
 }
 
-// A number, or none where the cells are no formula.
+// A number, or none.
 pub enum Number {
     Is(u64),
     None,

@@ -7,8 +7,13 @@ use primitive::rows::LEVEL;
 use primitive::rows::NODE;
 use primitive::words;
 ghost use mathlib.Core.Path.{_≡_};
-ghost use Prim.Native.Nat.{min};
-ghost use Rattle.formula.specs.Names.{readCells, heightIn, isRead, tallerIn, tallestIn};
+ghost use Prim.Native.Nat.{suc, min};
+ghost use Rattle.formula.specs.Names.{readCells, mostHeight, heightIn, isRead, tallerIn, tallestIn};
+
+pub const MOST_HEIGHT: u64 = 64;
+
+// Every height over the greatest allowed.
+const OVER: u64 = 65;
 
 // The number of read cells, those in branches never taken among them.
 pub fn read_cells(cells: &[i64]) -> u64
@@ -59,13 +64,13 @@ fn tallest(nodes: &[u64], cells: &[i64]) -> u64
     most
 }
 
-// The height of a computed with these cells; 65 stands for every height over 64.
+// The height of a computed with these cells, or OVER.
 pub fn height(nodes: &[u64], cells: &[i64]) -> u64
-    ensures { λ r. ⌜ r ≡ min 65 (heightIn (now (nodes .entry)) (now (cells .entry))) ⌝ }
+    ensures { λ r. ⌜ r ≡ min (suc mostHeight) (heightIn (now (nodes .entry)) (now (cells .entry))) ⌝ }
 {
     let most = tallest(nodes, cells);
-    if most >= 64 {
-        return 65;
+    if most >= MOST_HEIGHT {
+        return OVER;
     }
     most + 1
 }
