@@ -1,0 +1,5 @@
+pub mod Free
+pub mod Link
+pub mod Neighbours
+pub mod Ring
+pub mod Table
