@@ -2,29 +2,13 @@
 -- any other is left alone. Assumes nothing.
 use mathlib.Core.Path.{_≡_, refl, sym, ap, _∙_}
 use mathlib.Core.Bool.{Bool, true, false}
-use Prim.Native.Nat.{ℕ, zero, suc, _<_}
-use native.Mathlib.Decide.{ℕ-discrete}
-use native.Mathlib.Nat.{not-suc-le-zero}
+use Prim.Native.Nat.{ℕ, _<_}
 use native.Mathlib.Omega.{arith}
 use lib.Bits.{bitOr}
+use Rattle.primitive.proofs.FlagLaws.{every, every-at}
 use Rattle.marks.specs.Fields.{pending, busy, changed, marked, lacks}
 use Rattle.marks.specs.Visits.{visitOf}
 use Rattle.marks.specs.Visits.Visit.{Skip, Mark}
-
--- one computed test of the 256 bytes
-abbrev every : (ℕ → Bool) → ℕ → Bool
-every p zero = true
-every p (suc n) = elim (p n) [ true ↦ every p n | false ↦ false ]
-
-every-at : (p : ℕ → Bool) (n : ℕ) → every p n ≡ true → (k : ℕ) → k < n → p k ≡ true
-every-at p zero t k h = absurd (not-suc-le-zero h)
-every-at p (suc n) t k h = go (p n) refl t (λ u. every-at p n u k) (ℕ-discrete k n)
-  where
-    go : (b : Bool) → p n ≡ b → elim b [ true ↦ every p n | false ↦ false ] ≡ true → (every p n ≡ true → k < n → p k ≡ true)
-        → Dec (k ≡ n) → p k ≡ true
-    go true e u more (yes s) = ap p s ∙ e
-    go true e u more (no s) = more u (omega arith)
-    go false e u more d = let z : _≡_ {A = ℕ} 0 1 = cc in absurd (omega arith)
 
 -- where b holds, c and d are the same
 alike : Bool → Bool → Bool → Bool

@@ -44,12 +44,12 @@ bit-or = bit-op bitOr _||_ or-shr or-mod (digits (λ (x y : ℕ). eqb (bitOr x y
 pub bit-and : (k a b : ℕ) → bit k (bitAnd a b) ≡ (bit k a && bit k b)
 bit-and = bit-op bitAnd _&&_ and-shr and-mod (digits (λ (x y : ℕ). eqb (bitAnd x y) 1 ≡ (eqb x 1 && eqb y 1)) refl refl refl refl)
 
--- ---- a byte's complement has the other bits: one computed test of the 8 bits of the 256 bytes
-abbrev every : (ℕ → Bool) → ℕ → Bool
+-- ---- a law of every byte by one computed test
+abbrev pub every : (ℕ → Bool) → ℕ → Bool
 every p zero = true
 every p (suc n) = elim (p n) [ true ↦ every p n | false ↦ false ]
 
-every-at : (p : ℕ → Bool) (n : ℕ) → every p n ≡ true → (k : ℕ) → k < n → p k ≡ true
+pub every-at : (p : ℕ → Bool) (n : ℕ) → every p n ≡ true → (k : ℕ) → k < n → p k ≡ true
 every-at p zero t k h = absurd (not-suc-le-zero h)
 every-at p (suc n) t k h = go (p n) refl t (λ u. every-at p n u k) (ℕ-discrete k n)
   where
@@ -59,6 +59,7 @@ every-at p (suc n) t k h = go (p n) refl t (λ u. every-at p n u k) (ℕ-discret
     go true e u more (no s) = more u (omega arith)
     go false e u more d = let z : _≡_ {A = ℕ} 0 1 = cc in absurd (omega arith)
 
+-- ---- a byte's complement has the other bits
 opposite : Bool → Bool → Bool
 opposite true b = not b
 opposite false b = b
