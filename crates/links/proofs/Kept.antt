@@ -1,11 +1,10 @@
 -- What each single step keeps, the whole ring keeps: one induction for every relation that holds of tables and themselves, goes on from step to step, and holds
 -- over each single change. So the ring leaves alone what `Untouched` says, no link becomes live, and a slot that is unlinked is not live. Assumes nothing.
-use mathlib.Core.Path.{_≡_, refl, sym, ap, _∙_}
+use mathlib.Core.Path.{_≡_, refl, ap, _∙_}
 use mathlib.Core.Bool.{Bool, true, false}
 use Prim.Native.Nat.{ℕ, zero, suc, _<_}
 use native.Mathlib.Decide.{ℕ-discrete}
 use native.Mathlib.Omega.{arith}
-use lib.ListN.{length}
 use Rattle.primitive.specs.Slots.{slotOf}
 use Rattle.primitive.specs.declared.slots.Slot.{Slot}
 use Rattle.primitive.specs.declared.slots.Slot.the-variants.{At, Nothing}
@@ -97,7 +96,7 @@ reset-untouched t n f = then (by-node t n DEPS-TAIL 0 (omega arith) refl) (by-no
 
 retired-untouched : (t : Tab) (n : ℕ) → Untouched t (tab (retired (t .nodes) n) (t .links))
 unfolding retired
-retired-untouched t n = then (reset-untouched t n 0) (by-node _ n GONE 1 (omega arith) refl)
+retired-untouched t n = then (reset-untouched t n 0) (by-node _ n GONE _ (omega arith) refl)
 
 mended-untouched : (t : Tab) (s sub : ℕ) → Untouched t (mended t s sub)
 unfolding mended

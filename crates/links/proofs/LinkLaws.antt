@@ -61,7 +61,7 @@ taken-untouched t = go (slotOf (getD (t .links) FREE 0))
   where
     go : (o : Slot) → Untouched t (tab (t .nodes) (takenOn o (t .links) .links))
     go Nothing = untouched-refl t
-    go (At s) = then (by-link t s LIVE 1) (by-head _ _)
+    go (At s) = then (by-link t s LIVE _) (by-head _ _)
 
 written-untouched : (t : Tab) (s : ℕ) (i : LinkInit) → Untouched t (tab (t .nodes) (written (t .links) s i))
 unfolding written
@@ -107,7 +107,7 @@ reused-untouched t sub version w = go (slotOf w)
   where
     go : (o : Slot) → Untouched t (reusedOn o t sub version w)
     go Nothing = untouched-refl t
-    go (At s) = then (by-link t s VERSION version) (by-node _ sub DEPS-TAIL w (omega arith) refl)
+    go (At s) = then (by-link t s VERSION _) (by-node _ sub DEPS-TAIL w (omega arith) refl)
 
 pub linked-untouched : (t : Tab) (dep sub version : ℕ) → Untouched t (linked t dep sub version)
 unfolding linked

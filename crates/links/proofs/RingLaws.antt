@@ -2,8 +2,7 @@
 -- Assumes nothing.
 use mathlib.Core.Path.{_≡_, refl, sym, ap, _∙_}
 use mathlib.Core.Bool.{Bool, true, false, not}
-use mathlib.Core.List.{List}
-use Prim.Native.Nat.{ℕ, zero, suc, _+_, _≤_, _<_}
+use Prim.Native.Nat.{ℕ, zero, suc, _+_, _≤_}
 use native.Mathlib.Omega.{arith}
 use lib.Dec.{eqb}
 use lib.ListN.{length}
@@ -11,11 +10,11 @@ use Rattle.primitive.specs.Slots.{slotOf}
 use Rattle.primitive.specs.declared.slots.Slot.{Slot}
 use Rattle.primitive.specs.declared.slots.Slot.the-variants.{At, Nothing}
 use Rattle.primitive.proofs.RowLaws.{length-setField}
-use Rattle.links.specs.Free.{isLive, slots, live, released}
+use Rattle.links.specs.Free.{isLive, live}
 use Rattle.links.specs.Neighbours.{setBeside, setBesideOn}
-use Rattle.primitive.specs.Words.{LIVE, DEP, NEXT-DEP, DEPS-TAIL, PREV-DEP, PREV-SUB, NEXT-SUB, DEPS, SUBS, SUBS-TAIL, node, link, setNode}
-use Rattle.links.specs.Table.{Tab, tab}
-use Rattle.links.specs.Ring.{isOnly, isMutable, reset, mended, cutOut, nextOf, walked, purgedBy, disposedBy, droppedBy, unwatchedBy, unlinkedBy, unlinkedN, more, Unlinks}
+use Rattle.primitive.specs.Words.{LIVE, DEP, NEXT-DEP, DEPS-TAIL, PREV-DEP, PREV-SUB, NEXT-SUB, node, link}
+use Rattle.links.specs.Table.{Tab}
+use Rattle.links.specs.Ring.{isOnly, isMutable, mended, cutOut, nextOf, walked, disposedBy, droppedBy, unwatchedBy, unlinkedBy, unlinkedN, more, Unlinks}
 use Rattle.links.proofs.FreeLaws.{live-same, live-released, marks-stored}
 
 -- ---- a test that the code turns round

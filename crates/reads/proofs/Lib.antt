@@ -1,0 +1,4 @@
+pub mod StepLaws
+pub mod RingLaws
+pub mod TreeLaws
+pub mod Cases

@@ -1,0 +1,5 @@
+pub mod Tables
+pub mod Steps
+pub mod Ring
+pub mod Read
+pub mod Works
