@@ -1,0 +1,191 @@
+-- What a command never changes: node and cell counts do not fall; kinds, formulas, owners, levels and gone marks, once given, stay. Assumes nothing.
+use mathlib.Core.Path.{_≡_, refl, sym, ap, ap₂, _∙_, subst}
+use mathlib.Core.Bool.{Bool, true, false}
+use mathlib.Core.List.{List, []}
+use mathlib.Core.Option.{Option, none, some}
+use Prim.Native.Nat.{ℕ, zero, suc, _+_, _-_, _≤_, _<_}
+use native.Mathlib.Omega.{arith}
+use lib.IntN.{ℤ, pos}
+use Rattle.primitive.specs.declared.flags.Named.{Named}
+use Rattle.primitive.specs.declared.values.Value.{Value}
+use Rattle.primitive.specs.Values.{same}
+use Rattle.formula.specs.Trees.{Tree, constant}
+use Rattle.meaning.specs.State.{St, Kind, signal, computed, effect, scope, f0, f1, f2, f6, f17, nothing}
+use Rattle.meaning.specs.Setters.{withLog, withDepth, setFl, setPend}
+use Rattle.meaning.specs.Links.{isNil, link}
+use Rattle.meaning.specs.Marks.{propagate}
+use Rattle.meaning.specs.Reads.{evaluate}
+use Rattle.meaning.specs.Engine.{logged, flushOn, flushAt, store, node, owned, newSignal, newComputed, newScope, newEffect, endAt}
+use Rattle.meaning.specs.Words.{Command, makeSignal, makeComputed, makeEffect, makeScope, setTo, addTo, readOf, disposeOf, batchStart, batchEnd, commandOf, nodeOf, ownerOf, formulaOf}
+use Rattle.meaning.specs.Refusals.{total, cellsOf, usedCells, sightOf, refusal}
+use Rattle.meaning.specs.Commands.{perform, performAny, answer, command}
+use Rattle.meaning.proofs.Laws.{branch, up-other}
+use Rattle.meaning.proofs.Rings.{Drops, Renews, Runs, weaker-drops, weaker-renews, dispose-ring, settle-ring, evaluate-ring, flush-ring}
+use Rattle.meaning.proofs.Still.{Given, given, Fixed, Still, link-still, drops-still, renews-still}
+
+-- ---- what only the making of a node touches; and gone is for good
+pub record Keeps (s t : St) : Type 0 where
+  pub still : given t ≡ given s
+  pub gone : (n : ℕ) → s .gone n ≡ true → t .gone n ≡ true
+
+abbrev keeps : (s : St) → Keeps s s
+keeps s = record { still = refl; gone = λ n e. e }
+
+keeps-then : (s t x : St) → Keeps s t → Keeps t x → Keeps s x
+keeps-then s t x p q = record { still = q .still ∙ p .still; gone = λ n e. q .gone n (p .gone n e) }
+
+still-keeps : (s t : St) → Still s t → Keeps s t
+still-keeps s t p = record { still = ap (λ (f : Fixed). f .nodes) (p .same); gone = p .gone }
+
+link-keeps : (s : St) (d u v : ℕ) → Keeps s (link s d u v)
+link-keeps s d u v = still-keeps s _ (link-still s d u v)
+
+drops : Drops Keeps
+drops = weaker-drops Still Keeps still-keeps keeps-then drops-still
+
+renews : Renews Keeps
+renews = weaker-renews Still Keeps still-keeps keeps-then renews-still
+
+runs : Runs Keeps
+runs = record { renews = renews; logs = λ s l. record { still = refl; gone = λ n e. e } }
+
+flushOn-keeps : (q : List ℕ) (s : St) → Keeps s (flushOn s q)
+flushOn-keeps = flush-ring Keeps runs (λ s q. record { still = refl; gone = λ n e. e })
+
+pub store-keeps : (s : St) (n : ℕ) (v : Value) → Keeps s (store s n v)
+unfolding store
+store-keeps s n v =
+    let t = setFl (setPend s n v) n f17 in
+    let p = propagate t n in
+    let a : Keeps s p = record { still = refl; gone = λ n e. e } in
+    branch (Keeps s) (same (s .pend n) v) (λ e. keeps s)
+    (λ e. branch (Keeps s) (isNil (s .subs n)) (λ f. record { still = refl; gone = λ n e. e }) (λ f. keeps-then s p _ a (at p (p .depth))))
+  where
+    at : (p : St) (d : ℕ) → Keeps p (flushAt p d)
+    at p zero = flushOn-keeps (p .queue) p
+    at p (suc d) = keeps p
+
+end-keeps : (s : St) (d : ℕ) → Keeps s (endAt s d)
+end-keeps s zero = keeps s
+end-keeps s (suc zero) = let t = withDepth s 0 in keeps-then s t _ (record { still = refl; gone = λ n e. e }) (flushOn-keeps (s .queue) t)
+end-keeps s (suc (suc d)) = record { still = refl; gone = λ n e. e }
+
+-- ---- what stays, node by node
+pub record Stays (s t : St) : Type 0 where
+  pub room : t .room ≡ s .room
+  pub more : s .size ≤ t .size
+  pub kind : (n : ℕ) → n < s .size → t .kind n ≡ s .kind n
+  pub form : (n : ℕ) → n < s .size → t .form n ≡ s .form n
+  pub owner : (n : ℕ) → n < s .size → t .owner n ≡ s .owner n
+  pub level : (n : ℕ) → n < s .size → t .level n ≡ s .level n
+  pub gone : (n : ℕ) → n < s .size → s .gone n ≡ true → t .gone n ≡ true
+
+kept-stays : (s t : St) → Keeps s t → Stays s t
+kept-stays s t k =
+    let e : t .size ≡ s .size = ap (λ (g : Given). g .size) (k .still) in
+    record {
+      room = ap (λ (g : Given). g .room) (k .still);
+      more = omega arith;
+      kind = λ n h. ap (λ (g : Given). g .kind n) (k .still);
+      form = λ n h. ap (λ (g : Given). g .form n) (k .still);
+      owner = λ n h. ap (λ (g : Given). g .owner n) (k .still);
+      level = λ n h. ap (λ (g : Given). g .level n) (k .still);
+      gone = λ n h. k .gone n;
+    }
+
+stays-then : (s t x : St) → Stays s t → Stays t x → Stays s x
+stays-then s t x p q =
+    let m = p .more in
+    let l = q .more in
+    record {
+      room = q .room ∙ p .room;
+      more = omega arith;
+      kind = λ n h. q .kind n (omega arith) ∙ p .kind n h;
+      form = λ n h. q .form n (omega arith) ∙ p .form n h;
+      owner = λ n h. q .owner n (omega arith) ∙ p .owner n h;
+      level = λ n h. q .level n (omega arith) ∙ p .level n h;
+      gone = λ n h e. q .gone n (omega arith) (p .gone n h e);
+    }
+
+-- a new node changes nothing below it
+node-stays : (s : St) (k : Kind) (t : Tree) (o : Option ℕ) (b : Named) (v : Value) → Stays s (node s k t o b v)
+node-stays s k t o b v = record {
+  room = refl;
+  more = omega arith;
+  kind = λ n h. up-other (s .kind) (s .size) k n (λ e. omega arith);
+  form = λ n h. up-other (s .form) (s .size) t n (λ e. omega arith);
+  owner = λ n h. up-other (s .owner) (s .size) o n (λ e. omega arith);
+  level = λ n h. up-other (s .level) (s .size) _ n (λ e. omega arith);
+  gone = λ n h e. up-other (s .gone) (s .size) false n (λ e. omega arith) ∙ e;
+}
+
+owned-keeps : (s : St) (n : ℕ) (o : Option ℕ) → Keeps s (owned s n o)
+owned-keeps s n none = keeps s
+owned-keeps s n (some o) = link-keeps s n o 0
+
+effect-stays : (s : St) (o : Option ℕ) (t : Tree) → Stays s (newEffect s o t)
+unfolding newEffect logged
+effect-stays s o t =
+    let n = s .size in
+    let a = node s effect t o f6 nothing in
+    let b = owned a n o in
+    let r = evaluate b n in
+    let x = setFl (logged r n) n f2 in
+    let k : Keeps a (r .st) = keeps-then a b (r .st) (owned-keeps a n o) (evaluate-ring Keeps renews b n) in
+    let l : Keeps (r .st) x = record { still = refl; gone = λ n e. e } in
+    stays-then s a x (node-stays s effect t o f6 nothing) (kept-stays a x (keeps-then a (r .st) x k l))
+
+perform-stays : (s : St) (c : Command) → Stays s (perform s c .st)
+unfolding perform newSignal newComputed newScope
+perform-stays s (makeSignal v) = node-stays s signal (constant (pos 0)) none f1 _
+perform-stays s (makeComputed cs) = node-stays s computed (formulaOf cs) none f0 nothing
+perform-stays s (makeEffect o cs) = effect-stays s (ownerOf o) (formulaOf cs)
+perform-stays s (makeScope o) =
+    let a = node s scope (constant (pos 0)) (ownerOf o) f0 nothing in
+    stays-then s a _ (node-stays s scope (constant (pos 0)) (ownerOf o) f0 nothing) (kept-stays a _ (owned-keeps a (s .size) (ownerOf o)))
+perform-stays s (setTo n v) = kept-stays s _ (store-keeps s (nodeOf n) _)
+perform-stays s (addTo n d) = kept-stays s _ (store-keeps s (nodeOf n) _)
+perform-stays s (readOf n) = kept-stays s _ (settle-ring Keeps renews s (nodeOf n))
+perform-stays s (disposeOf n) = kept-stays s _ (dispose-ring Keeps drops s (nodeOf n))
+perform-stays s batchStart = kept-stays s _ (record { still = refl; gone = λ n e. e })
+perform-stays s batchEnd = kept-stays s _ (end-keeps s (s .depth))
+
+any-stays : (s : St) (c : Option Command) → Stays s (performAny s c .st)
+unfolding performAny
+any-stays s none = kept-stays s _ (record { still = refl; gone = λ n e. e })
+any-stays s (some c) = perform-stays s c
+
+pub command-stays : (well : Bool) (s : St) (rows : ℕ) (ws : List ℤ) → Stays s (command well s rows ws .st)
+unfolding command answer
+command-stays well s rows ws = go (refusal well (sightOf s rows) ws)
+  where
+    go : (r : ℕ) → Stays s (answer r s ws .st)
+    go zero = stays-then s (withLog s []) _ (kept-stays s (withLog s []) (record { still = refl; gone = λ n e. e })) (any-stays (withLog s []) (commandOf ws))
+    go (suc r) = kept-stays s s (keeps s)
+
+-- ---- the cells in use
+pub total-same : (f g : ℕ → ℕ) (n : ℕ) → ((m : ℕ) → m < n → g m ≡ f m) → total g n ≡ total f n
+unfolding total
+total-same f g zero h = refl
+total-same f g (suc n) h = ap₂ (λ (a b : ℕ). a + b) (total-same f g n (λ m l. h m (omega arith))) (h n (omega arith))
+
+total-more : (f : ℕ → ℕ) (n k : ℕ) → total f n ≤ total f (k + n)
+unfolding total
+total-more f n zero = let e : 0 + n ≡ n = omega arith in subst (λ (m : ℕ). total f n ≤ total f m) (sym e) (omega arith)
+total-more f n (suc k) =
+    let a = total-more f n k in
+    let e : suc k + n ≡ suc (k + n) = omega arith in
+    subst (λ (m : ℕ). total f n ≤ total f m) (sym e) (omega arith)
+
+pub cells-stay : (s t : St) → Stays s t → usedCells s ≤ usedCells t
+unfolding usedCells
+cells-stay s t h =
+    let f : ℕ → ℕ = λ n. cellsOf (s .kind n) (s .form n) in
+    let g : ℕ → ℕ = λ n. cellsOf (t .kind n) (t .form n) in
+    let e : total g (s .size) ≡ total f (s .size) = total-same f g (s .size) (λ m l. ap₂ cellsOf (h .kind m l) (h .form m l)) in
+    let m = h .more in
+    let k = t .size - s .size in
+    let p = total-more g (s .size) k in
+    let q : k + s .size ≡ t .size = omega arith in
+    let z : total g (s .size) ≤ total g (t .size) = subst (λ (x : ℕ). total g (s .size) ≤ total g x) q p in
+    omega arith

@@ -1,0 +1,17 @@
+pub mod Laws
+pub mod Table
+pub mod Oracle
+pub mod Refused
+pub mod Rings
+pub mod Still
+pub mod Kept
+pub mod Flush
+pub mod Emptied
+pub mod Bytes
+pub mod Reached
+pub mod Stuck
+pub mod Formulas
+pub mod Freed
+pub mod Batches
+pub mod Making
+pub mod Accepted

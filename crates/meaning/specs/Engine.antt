@@ -1,0 +1,112 @@
+-- Document 01, "Values, writes, flush", and the making of nodes.
+use mathlib.Core.Bool.{true, false}
+use mathlib.Core.List.{List, [], _∷_, _++_}
+use mathlib.Core.Option.{Option, none, some}
+use Prim.Native.Nat.{ℕ, zero, suc, max}
+use lib.IntN.{pos}
+use Rattle.primitive.specs.declared.flags.Named.{Named}
+use Rattle.primitive.specs.declared.values.Value.{Value}
+use Rattle.primitive.specs.Values.{same}
+use Rattle.formula.specs.Trees.{Tree, constant, names}
+use Rattle.meaning.specs.State.{St, Kind, signal, computed, effect, scope, f0, f1, f2, f6, f17, nothing, raised}
+use Rattle.meaning.specs.Setters.{setKind, setForm, setOwner, setGone, setLevel, setFl, setSto, setPend, setDone, setRest, setSubs, withSize, withQueue, withDepth, withCycle, withLog}
+use Rattle.meaning.specs.Links.{isNil, link, purge, rewind}
+use Rattle.meaning.specs.Marks.{propagate}
+use Rattle.meaning.specs.Reads.{Out, check, evaluate}
+
+-- ---- runs
+-- one log row more
+unfoldable pub logged : Out → ℕ → St
+logged o e = withLog (o .st) (o .st .log ++ record { who = e; worth = o .val; reads = o .reads } ∷ [])
+
+-- what e owns is disposed by the purge
+unfoldable pub rerun : St → ℕ → St
+rerun s e = let o = evaluate (setFl (rewind (withCycle s (raised (s .cycle))) e) e f6) e in purge (setFl (logged o e) e f2) e
+
+-- its reads decide; a gone effect has flags 0 and does not run
+unfoldable pub run : St → ℕ → St
+run s e =
+    elim (s .fl e .dirty) [
+      | true ↦ rerun s e
+      | false ↦ elim (s .fl e .pending) [
+        | true ↦ let c = check s e in elim (c .yes) [ true ↦ rerun (c .st) e | false ↦ setFl (c .st) e f2 ]
+        | false ↦ setFl s e f2
+      ]
+    ]
+
+unfoldable pub flushOn : St → List ℕ → St
+flushOn s [] = s
+flushOn s (e ∷ q) = flushOn (run (withQueue s q) e) q
+
+abbrev pub flush : St → St
+flush s = flushOn s (s .queue)
+
+-- only at depth 0
+abbrev pub flushAt : St → ℕ → St
+flushAt s zero = flush s
+flushAt s (suc d) = s
+
+-- ---- writes: nothing happens where the new value is the old pending one
+unfoldable pub store : St → ℕ → Value → St
+store s n v =
+    let t = setFl (setPend s n v) n f17 in
+    elim (same (s .pend n) v) [
+      | true ↦ s
+      | false ↦ elim (isNil (s .subs n)) [ true ↦ t | false ↦ let p = propagate t n in flushAt p (p .depth) ]
+    ]
+
+-- ---- heights and owner depths
+unfoldable pub tallest : (ℕ → ℕ) → List ℕ → ℕ
+tallest h [] = 0
+tallest h (n ∷ ns) = max (h n) (tallest h ns)
+
+-- the height of a computed: 1 + the greatest height its formula names (1 if none)
+abbrev pub heightOf : (ℕ → ℕ) → Tree → ℕ
+heightOf h t = suc (tallest h (names t))
+
+-- unowned 1; owned, owner's + 1
+abbrev pub depthUnder : (ℕ → ℕ) → Option ℕ → ℕ
+depthUnder h none = 1
+depthUnder h (some o) = suc (h o)
+
+abbrev pub levelOf : (ℕ → ℕ) → Kind → Tree → Option ℕ → ℕ
+levelOf h signal t o = 0
+levelOf h computed t o = heightOf h t
+levelOf h effect t o = depthUnder h o
+levelOf h scope t o = depthUnder h o
+
+-- ---- a new node has the next number
+abbrev pub bareNode : St → ℕ → St
+bareNode s n = setSubs (setRest (setDone (setGone s n false) n []) n []) n []
+
+abbrev pub node : St → Kind → Tree → Option ℕ → Named → Value → St
+node s k t o b v =
+    let n = s .size in
+    withSize (setPend (setSto (setFl (setLevel (setOwner (setForm (setKind (bareNode s n) n k) n t) n o) n (levelOf (s .level) k t o)) n b) n v) n v) (suc n)
+
+-- its owner depends on it
+abbrev pub owned : St → ℕ → Option ℕ → St
+owned s n none = s
+owned s n (some o) = link s n o 0
+
+unfoldable pub newSignal : St → Value → St
+newSignal s v = node s signal (constant (pos 0)) none f1 v
+
+unfoldable pub newComputed : St → Tree → St
+newComputed s t = node s computed t none f0 nothing
+
+unfoldable pub newScope : St → Option ℕ → St
+newScope s o = owned (node s scope (constant (pos 0)) o f0 nothing) (s .size) o
+
+-- it runs at once, and the cycle is not raised
+unfoldable pub newEffect : St → Option ℕ → Tree → St
+newEffect s o t = let n = s .size in let r = evaluate (owned (node s effect t o f6 nothing) n o) n in setFl (logged r n) n f2
+
+-- ---- batches
+abbrev pub start : St → St
+start s = withDepth s (suc (s .depth))
+
+abbrev pub endAt : St → ℕ → St
+endAt s zero = s
+endAt s (suc zero) = flush (withDepth s 0)
+endAt s (suc (suc d)) = withDepth s (suc d)

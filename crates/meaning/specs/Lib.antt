@@ -1,0 +1,13 @@
+pub mod State
+pub mod Setters
+pub mod Links
+pub mod Marks
+pub mod Reads
+pub mod Engine
+pub mod Words
+pub mod Refusals
+pub mod WellFormed
+pub mod Commands
+pub mod Cases
+pub mod Played
+pub mod Reach

@@ -1,0 +1,165 @@
+-- Document 01, "The engine and its edges": what is said of each node and of each link slot.
+-- A column is a function of the number, and `up` changes it at one place.
+use mathlib.Core.Bool.{Bool, true, false, not, _||_}
+use mathlib.Core.List.{List, [], _∷_, _++_}
+use mathlib.Core.Option.{Option, none}
+use Prim.Native.Nat.{ℕ, zero, suc, _+_, _%_, _^_}
+use lib.Dec.{eqb}
+use lib.IntN.{pos}
+use Rattle.primitive.specs.declared.flags.Named.{Named}
+use Rattle.primitive.specs.declared.values.Value.{Value}
+use Rattle.primitive.specs.Values.{value}
+use Rattle.formula.specs.Trees.{Tree, constant}
+
+pub data Kind : Type 0 where
+  signal computed effect scope : Kind
+
+-- signals and computeds can be read
+abbrev pub readable : Kind → Bool
+readable signal = true
+readable computed = true
+readable effect = false
+readable scope = false
+
+-- the place of a node in the order of dependency: today its number
+abbrev pub rank : ℕ → ℕ
+rank n = n
+
+-- the flags that occur, by their byte
+abbrev pub flags : Bool → Bool → Bool → Bool → Bool → Bool → Named
+flags m w c r d p = record { mutable = m; watching = w; «recursed_check» = c; recursed = r; dirty = d; pending = p }
+
+abbrev pub f0 : Named
+f0 = flags false false false false false false
+
+abbrev pub f1 : Named
+f1 = flags true false false false false false
+
+abbrev pub f2 : Named
+f2 = flags false true false false false false
+
+abbrev pub f5 : Named
+f5 = flags true false true false false false
+
+abbrev pub f6 : Named
+f6 = flags false true true false false false
+
+abbrev pub f17 : Named
+f17 = flags true false false false true false
+
+abbrev pub f32 : Named
+f32 = flags false false false false false true
+
+abbrev pub f33 : Named
+f33 = flags true false false false false true
+
+abbrev pub f48 : Named
+f48 = flags false false false false true true
+
+abbrev pub f49 : Named
+f49 = flags true false false false true true
+
+abbrev pub withPending : Named → Bool → Named
+withPending f b = flags (f .mutable) (f .watching) (f .«recursed_check») (f .recursed) (f .dirty) b
+
+abbrev pub withDirty : Named → Bool → Named
+withDirty f b = flags (f .mutable) (f .watching) (f .«recursed_check») (f .recursed) b (f .pending)
+
+abbrev pub withWatching : Named → Bool → Named
+withWatching f b = flags (f .mutable) b (f .«recursed_check») (f .recursed) (f .dirty) (f .pending)
+
+-- no flag at all: a computed that was never evaluated
+abbrev pub bare : Named → Bool
+bare f = not (f .mutable || (f .watching || (f .«recursed_check» || (f .recursed || (f .dirty || f .pending)))))
+
+abbrev pub unclean : Named → Bool
+unclean f = f .dirty || f .pending
+
+-- a node in the middle of an evaluation, which no walk may meet
+abbrev pub recursing : Named → Bool
+recursing f = f .«recursed_check» || f .recursed
+
+-- one run of an effect: its number, its value, and what it read, in order
+pub record Row : Type 0 where
+  pub who : ℕ
+  pub worth : Value
+  pub reads : List (ℕ × Value)
+
+-- the capacities
+pub record Room : Type 0 where
+  pub nodes : ℕ
+  pub slots : ℕ
+  pub cells : ℕ
+
+pub record St : Type 0 where
+  pub room : Room
+  pub size : ℕ  -- nodes are 0 .. size - 1
+  pub kind : ℕ → Kind
+  pub form : ℕ → Tree  -- of a computed or an effect; a constant otherwise
+  pub owner : ℕ → Option ℕ
+  pub gone : ℕ → Bool
+  pub level : ℕ → ℕ  -- the height of a signal or a computed, the owner depth of an effect or a scope
+  pub fl : ℕ → Named
+  pub sto : ℕ → Value  -- stored: the current value of a signal, the value of a computed that has one
+  pub pend : ℕ → Value  -- the pending value of a signal: the last written one
+  pub done : ℕ → List ℕ  -- dependency links up to the cursor
+  pub rest : ℕ → List ℕ  -- and after it
+  pub subs : ℕ → List ℕ  -- subscriber links
+  pub live : ℕ → Bool  -- of a slot; the next three speak of live slots
+  pub dep : ℕ → ℕ
+  pub sub : ℕ → ℕ
+  pub ver : ℕ → ℕ
+  pub free : List ℕ  -- the last freed first
+  pub queue : List ℕ
+  pub depth : ℕ
+  pub cycle : ℕ
+  pub log : List Row  -- the runs of the last accepted command
+  pub stuck : Bool  -- an operation could not go on
+
+-- a column with one place changed
+unfoldable pub up {ℓ} : {A : Type ℓ} → (ℕ → A) → ℕ → A → ℕ → A
+up f n v m = elim (eqb m n) [ true ↦ v | false ↦ f m ]
+
+-- all dependency links of u
+abbrev pub deps : St → ℕ → List ℕ
+deps s u = s .done u ++ s .rest u
+
+-- a u64 that wraps
+abbrev pub raised : ℕ → ℕ
+raised c = (c + 1) % 2 ^ 64
+
+-- 0 .. n - 1 before l
+unfoldable pub below : ℕ → List ℕ → List ℕ
+below zero l = l
+below (suc n) l = below n (n ∷ l)
+
+abbrev pub nothing : Value
+nothing = value (pos 0)
+
+-- no nodes, all slots free, the lowest first, depth and cycle 0
+unfoldable pub empty : Room → St
+empty r = record {
+  room = r;
+  size = 0;
+  kind = λ n. scope;
+  form = λ n. constant (pos 0);
+  owner = λ n. none;
+  gone = λ n. false;
+  level = λ n. 0;
+  fl = λ n. f0;
+  sto = λ n. nothing;
+  pend = λ n. nothing;
+  done = λ n. [];
+  rest = λ n. [];
+  subs = λ n. [];
+  live = λ l. false;
+  dep = λ l. 0;
+  sub = λ l. 0;
+  ver = λ l. 0;
+  free = below (r .slots) [];
+  queue = [];
+  depth = 0;
+  cycle = 0;
+  log = [];
+  stuck = false;
+}
