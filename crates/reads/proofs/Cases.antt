@@ -1,11 +1,10 @@
 -- Small tables, computed: document 01's cases 1 and 3, a choose that switches branches, and a node that reads itself. Assumes nothing.
 use mathlib.Core.Path.{_≡_, refl}
-use mathlib.Core.Bool.{Bool, true, false}
+use mathlib.Core.Bool.{false}
 use mathlib.Core.List.{List, [], _∷_}
 use Prim.Native.Nat.{ℕ, _+_, _*_}
-use lib.IntN.{ℤ, pos, negsuc}
+use lib.IntN.{ℤ, pos}
 use lib.ListN.{getD, set, replicate}
-use Rattle.primitive.specs.declared.values.Value.{Value}
 use Rattle.primitive.specs.Flags as flags
 use Rattle.primitive.specs.Rows as rows
 use Rattle.primitive.specs.Values as values

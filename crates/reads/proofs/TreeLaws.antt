@@ -1,21 +1,21 @@
 -- Evaluation by cells is evaluation of the tree that they write out. Assumes nothing.
-use mathlib.Core.Path.{_≡_, refl, sym, ap, _∙_}
+use mathlib.Core.Path.{_≡_, refl, ap, ap₂, _∙_}
 use mathlib.Core.Bool.{Bool, true, false}
-use mathlib.Core.List.{List}
-use Prim.Native.Nat.{ℕ, zero, suc, _+_, _-_, _/_, _≤_, _<_, max}
+use mathlib.Core.List.{List, [], _∷_, _++_}
+use Prim.Native.Nat.{ℕ, zero, suc, _+_, _-_, _/_, _≤_}
 use native.Mathlib.Omega.{arith}
 use lib.IntN.{ℤ}
 use lib.ListN.{length}
 use Rattle.primitive.specs.Values.{value, isZero}
-use Rattle.formula.specs.Cells.{arityOf, cellAt, settled, endOf}
-use Rattle.formula.specs.Trees.{Tree, constant, read, two, choose, size, nesting, apply, worth}
+use Rattle.formula.specs.Cells.{arityOf, endOf}
+use Rattle.formula.specs.Trees.{Tree, constant, read, two, choose, size, nesting, apply, chosen, worth, reads}
 use Rattle.formula.proofs.Ends.{paid}
 use Rattle.formula.proofs.Laid.{Laid}
 use Rattle.formula.proofs.ScanLaws.{arity-inside, count-done}
 use Rattle.primitive.specs.declared.values.Value.{Value}
-use Rattle.reads.specs.Tables.{State, Got, got, Evaluated, evaluated}
+use Rattle.reads.specs.Tables.{State, Got, Evaluated, evaluated}
 use Rattle.reads.specs.Ring.{Ring, readBy, twoBy, chooseBy, cellBy, evaluatedBy}
-use Rattle.reads.specs.Works.{workedBy}
+use Rattle.reads.specs.Works.{workedBy, readAll}
 
 module _ (ws : List ℤ) where
   -- a tree lies inside the list
@@ -70,3 +70,39 @@ module _ (ws : List ℤ) where
       let qb = evaluated-tree r n b d (j + size a) (x .after) (l .3) (omega arith) in
       let e : i + suc (size c + (size a + size b)) ≡ j + size a + size b = omega arith in
       rw (l .0, e) (branches (evaluatedBy ws r n d) s (suc i) j (j + size a) (j + size a + size b) x _ _ p (end-laid a j (l .2)) (end-laid b (j + size a) (l .3)) qa qb)
+
+  pub next-after-tree : (r : Ring) (n : ℕ) (t : Tree) (d i : ℕ) (s : State) → Laid ws t i → nesting t ≤ d → evaluatedBy ws r n d s i .next ≡ i + size t
+  next-after-tree r n t d i s l h = ap (λ (e : Evaluated). e .next) (evaluated-tree r n t d i s l h)
+
+module _ (r : Ring) (n : ℕ) where
+  read-all-append : (xs ys : List ℕ) (s : State) → readAll r n ys (readAll r n xs s) ≡ readAll r n (xs ++ ys) s
+  unfolding readAll
+  read-all-append [] ys s = refl
+  read-all-append (m ∷ xs) ys s = read-all-append xs ys (readBy r n s m .after)
+
+  -- Where a read of m gives env m in every state that is P, and leaves it P: a tree is worth what `worth` says, and reads what `reads` says, in that order.
+  module _ (P : State → Type 0) (env : ℕ → Value) (h : (s : State) (m : ℕ) → P s → (readBy r n s m .value ≡ env m) × P (readBy r n s m .after)) where
+    abbrev As : Tree → State → Type 0
+    As t s = (workedBy r n t s .value ≡ worth t env) × (workedBy r n t s .after ≡ readAll r n (reads t env) s) × P (workedBy r n t s .after)
+
+    either-branch : (c a b : Tree) (s : State) (z : Bool) → isZero (worth c env) ≡ z → As c s → As a (workedBy r n c s .after) → As b (workedBy r n c s .after) → As (choose c a b) s
+    unfolding workedBy worth reads chosen
+    either-branch c a b s true e x ya yb =
+        let z : isZero (workedBy r n c s .value) ≡ true = ap isZero (x .0) ∙ e in
+        rw (z, workedBy, e, chosen) (yb .0, yb .1 ∙ ap (readAll r n (reads b env)) (x .1) ∙ read-all-append (reads c env) (reads b env) s, yb .2)
+    either-branch c a b s false e x ya yb =
+        let z : isZero (workedBy r n c s .value) ≡ false = ap isZero (x .0) ∙ e in
+        rw (z, workedBy, e, chosen) (ya .0, ya .1 ∙ ap (readAll r n (reads a env)) (x .1) ∙ read-all-append (reads c env) (reads a env) s, ya .2)
+
+    pub worth-of-tree : (t : Tree) (s : State) → P s → As t s
+    unfolding workedBy worth reads readAll
+    worth-of-tree (constant k) s p = (refl, refl, p)
+    worth-of-tree (read m) s p = let g = h s m p in (g .0, refl, g .1)
+    worth-of-tree (two o a b) s p =
+        let x = worth-of-tree a s p in
+        let y = worth-of-tree b (workedBy r n a s .after) (x .2) in
+        (ap₂ (apply o) (x .0) (y .0), y .1 ∙ ap (readAll r n (reads b env)) (x .1) ∙ read-all-append (reads a env) (reads b env) s, y .2)
+    worth-of-tree (choose c a b) s p =
+        let x = worth-of-tree c s p in
+        let u = workedBy r n c s .after in
+        either-branch c a b s (isZero (worth c env)) refl x (worth-of-tree a u (x .2)) (worth-of-tree b u (x .2))

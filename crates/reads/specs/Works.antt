@@ -1,6 +1,7 @@
 -- Evaluation by the tree that the cells write out: what a formula is worth to node n, and the state after working it out.
 use Prim.Native.Nat.{ℕ}
-use mathlib.Core.Bool.{Bool, true, false}
+use mathlib.Core.Bool.{true, false}
+use mathlib.Core.List.{List, [], _∷_}
 use Rattle.primitive.specs.Values.{value, isZero}
 use Rattle.formula.specs.Trees.{Tree, constant, read, two, choose, apply}
 use Rattle.reads.specs.Tables.{State, Got, got}
@@ -17,3 +18,8 @@ workedBy r n (two o a b) s =
 workedBy r n (choose c a b) s =
     let x = workedBy r n c s in
     elim (isZero (x .value)) [ true ↦ workedBy r n b (x .after) | false ↦ workedBy r n a (x .after) ]
+
+-- the state after node n has read these nodes, in order
+unfoldable pub readAll : Ring → ℕ → List ℕ → State → State
+readAll r n [] s = s
+readAll r n (m ∷ ms) s = readAll r n ms (readBy r n s m .after)
