@@ -17,7 +17,7 @@ use Rattle.formula.specs.Legal.{mostNesting}
 use Rattle.primitive.specs.Words.{DEPS, DEP, NEXT-DEP, node, link}
 use Rattle.primitive.specs.Words.{linkRows}
 use Rattle.marks.specs.Fields.{flagsOf, setFlags, dirty, pending, has, hasOnly, without}
-use Rattle.reads.specs.Tables.{State, state, Told, told, Got, Evaluated, evaluated, rankOf}
+use Rattle.reads.specs.Tables.{State, state, Told, told, Got, got, Evaluated, evaluated, rankOf}
 use Rattle.reads.specs.Steps.{wokenOthers, updatedSignal, wakenIf, refreshedSignal, begunFirst, begun, finishedFirst, finished}
 use Rattle.reads.specs.Ring.{Ring, kindOf, startOf, readBy, twoBy, chooseBy, cellBy, evaluatedBy, updatedComputedBy, firstBy, updatedBy, settledBy, pendingBy, stale, unsure, dependencyBy, dirtyBy, onward, depsOn, depsBy, checkedBy, renewedBy, surelyBy, refreshedComputedBy, refreshedBy, ringN}
 use Rattle.reads.specs.Read.{refreshed, checked, evaluatedFor}
@@ -174,6 +174,9 @@ module _ (ws : List ℤ) where
     unfolding checked
     bound-checked s = checks ws (ringN ws k) (ringN ws (rankOf n)) (rankOf n) own s n (omega arith)
 
-    pub bound-evaluated : (s : State) (i d : ℕ) → evaluatedBy ws (ringN ws k) n d s i ≡ evaluatedFor ws s n i d
+    abbrev gotFrom : Evaluated → Got
+    gotFrom e = got (e .value) (e .after)
+
+    pub bound-evaluated : (s : State) → gotFrom (evaluatedBy ws (ringN ws k) n mostNesting s (startOf s n)) ≡ evaluatedFor ws s n
     unfolding evaluatedFor
-    bound-evaluated s i d = ap (λ (e : State → ℕ → Evaluated). e s i) (works ws (ringN ws k) (ringN ws (rankOf n)) n own d)
+    bound-evaluated s = ap (λ (e : State → ℕ → Evaluated). gotFrom (e s (startOf s n))) (works ws (ringN ws k) (ringN ws (rankOf n)) n own mostNesting)

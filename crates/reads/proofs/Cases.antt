@@ -42,6 +42,10 @@ written s n v = state (word (s .nodes) n 0 17) (s .links) (set (s .values) (n * 
 abbrev marked : State → ℕ → ℕ → State
 marked s n f = state (word (s .nodes) n 0 f) (s .links) (s .values)
 
+-- the formula of n starts at cell i
+abbrev starting : State → ℕ → ℕ → State
+starting s n i = state (word (s .nodes) n 7 i) (s .links) (s .values)
+
 abbrev empty : State
 empty = state (replicate 80 0) free-slots (replicate 16 (pos 0))
 
@@ -71,7 +75,7 @@ abbrev below-ten : List ℤ
 below-ten = pos 7 ∷ pos 0 ∷ pos 2 ∷ pos 0 ∷ pos 1 ∷ pos 10 ∷ pos 2 ∷ pos 1 ∷ []
 
 abbrev ran : State
-ran = evaluatedFor below-ten (computed (signal empty 0 (pos 5)) 1 0) 2 3 16 .after
+ran = evaluatedFor below-ten (starting (computed (signal empty 0 (pos 5)) 1 0) 2 3) 2 .after
 
 abbrev asked : Told
 asked = checked below-ten (marked (marked (written ran 0 (pos 8)) 1 33) 2 32) 2

@@ -162,6 +162,6 @@ module _ (R : State → State → Type 0) (same : (s : State) → R s s) (trans 
   unfolding checked
   keeps-checked s n = checks-all (ringN ws (rankOf n)) (keeps (rankOf n) .0) (keeps (rankOf n) .1) s n
 
-  pub keeps-evaluated : (s : State) (n i d : ℕ) → R s (evaluatedFor ws s n i d .after)
+  pub keeps-evaluated : (s : State) (n : ℕ) → R s (evaluatedFor ws s n .after)
   unfolding evaluatedFor
-  keeps-evaluated s n i d = works (ringN ws (rankOf n)) (keeps (rankOf n) .0) (keeps (rankOf n) .1) n d s i
+  keeps-evaluated s n = works (ringN ws (rankOf n)) (keeps (rankOf n) .0) (keeps (rankOf n) .1) n mostNesting s (startOf s n)

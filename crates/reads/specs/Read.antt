@@ -2,8 +2,9 @@
 use Prim.Native.Nat.{ℕ}
 use mathlib.Core.List.{List}
 use lib.IntN.{ℤ}
-use Rattle.reads.specs.Tables.{State, Told, Got, got, Evaluated, rankOf, currentOf}
-use Rattle.reads.specs.Ring.{ringN, evaluatedBy, checkedBy, refreshedBy}
+use Rattle.formula.specs.Legal.{mostNesting}
+use Rattle.reads.specs.Tables.{State, Told, Got, got, rankOf, currentOf}
+use Rattle.reads.specs.Ring.{startOf, ringN, evaluatedBy, checkedBy, refreshedBy}
 
 -- node n has its value up to date
 unfoldable pub refreshed : List ℤ → State → ℕ → State
@@ -17,6 +18,6 @@ readOf ws s n = let t = refreshed ws s n in got (currentOf (t .values) n) t
 unfoldable pub checked : List ℤ → State → ℕ → Told
 checked ws s n = checkedBy ws (ringN ws (rankOf n)) s n
 
--- the expression at cell i, of nesting at most d, worked out for node n
-unfoldable pub evaluatedFor : List ℤ → State → ℕ → ℕ → ℕ → Evaluated
-evaluatedFor ws s n i d = evaluatedBy ws (ringN ws (rankOf n)) n d s i
+-- the formula of node n worked out for it: its value, and the state after it
+unfoldable pub evaluatedFor : List ℤ → State → ℕ → Got
+evaluatedFor ws s n = let e = evaluatedBy ws (ringN ws (rankOf n)) n mostNesting s (startOf s n) in got (e .value) (e .after)

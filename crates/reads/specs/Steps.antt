@@ -5,7 +5,6 @@ use mathlib.Core.List.{List}
 use Rattle.primitive.specs.declared.slots.Slot.{Slot}
 use Rattle.primitive.specs.declared.slots.Slot.the-variants.{At, Nothing}
 use Rattle.primitive.specs.declared.values.Value.{Value}
-use Rattle.primitive.specs.Rows.{setField}
 use Rattle.primitive.specs.Slots.{slotOf}
 use Rattle.primitive.specs.Values.{same}
 use Rattle.links.specs.Link.{linked}

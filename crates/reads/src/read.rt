@@ -1,10 +1,13 @@
 // Reads, for callers: each with what it leaves in every word.
 use crate::places::current;
 use crate::ring;
-use crate::ring::Worked;
+use formula::legal::MOST_NESTING;
+use primitive::rows::NODE;
+use primitive::rows::START;
 use primitive::values::Value;
+use primitive::words;
 ghost use mathlib.Core.Path.{_≡_};
-ghost use Rattle.reads.specs.Tables.{state, told, got, evaluated};
+ghost use Rattle.reads.specs.Tables.{state, told, got};
 ghost use Rattle.reads.specs.Read.{readOf, checked, evaluatedFor};
 
 // A read that no node makes: its value, up to date.
@@ -21,7 +24,7 @@ pub fn read(
     current(values, n)
 }
 
-// Whether a dependency of node n has changed, or n is marked so.
+// Whether a dependency of node n has changed. They are asked in order, and a DIRTY mark found on n before one is asked is an answer too.
 pub fn check_dirty(
     nodes: &mut [u64],
     links: &mut [u64],
@@ -34,17 +37,17 @@ pub fn check_dirty(
     ring::check_dirty(nodes, links, values, cells, n)
 }
 
-// What the expression at a cell is worth to node n, which then depends on what was read.
+// What the formula of node n is worth to it. It then depends on what was read.
 pub fn evaluate(
     nodes: &mut [u64],
     links: &mut [u64],
     values: &mut [i64],
     cells: &[i64],
     n: u64,
-    at: u64,
-    depth: u64,
-) -> Worked
-    ensures { λ r. ⌜ evaluated (r .value) (r .next) (state (now (nodes .exit)) (now (links .exit)) (now (values .exit))) ≡ evaluatedFor (now (cells .entry)) (state (now (nodes .entry)) (now (links .entry)) (now (values .entry))) n at depth ⌝ }
+) -> Value
+    ensures { λ r. ⌜ got r (state (now (nodes .exit)) (now (links .exit)) (now (values .exit))) ≡ evaluatedFor (now (cells .entry)) (state (now (nodes .entry)) (now (links .entry)) (now (values .entry))) n ⌝ }
 {
-    ring::evaluate(nodes, links, values, cells, n, at, depth)
+    let at = words::get(nodes, NODE, n, START);
+    let worked = ring::evaluate(nodes, links, values, cells, n, at, MOST_NESTING);
+    worked.value
 }

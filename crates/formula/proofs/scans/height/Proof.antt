@@ -1,9 +1,9 @@
--- `formula::reads::height` meets its contract. Assumes nothing.
+-- `formula::scans::height` meets its contract. Assumes nothing.
 use native.Mathlib.Omega.{arith}
 use Rattle.formula.specs.Names.{heightIn}
 use borrow.Author.Needs.{needs}
-use Rattle.formula.proofs.reads.height.Statement.{statement}
-use Rattle.formula.proofs.reads.height.Tie as tie
+use Rattle.formula.proofs.scans.height.Statement.{statement}
+use Rattle.formula.proofs.scans.height.Tie as tie
 
 tallest-requires : tie.Need-tallest-requires
 tallest-requires c κs = search needs

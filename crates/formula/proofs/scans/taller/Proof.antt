@@ -1,8 +1,8 @@
--- `formula::reads::taller` meets its contract. Assumes nothing.
+-- `formula::scans::taller` meets its contract. Assumes nothing.
 use Rattle.formula.proofs.ScanLaws.{taller-none, taller-more, taller-less}
 use borrow.Author.Needs.{needs}
-use Rattle.formula.proofs.reads.taller.Statement.{statement}
-use Rattle.formula.proofs.reads.taller.Tie as tie
+use Rattle.formula.proofs.scans.taller.Statement.{statement}
+use Rattle.formula.proofs.scans.taller.Tie as tie
 
 name-requires : tie.Need-name-requires
 name-requires c κs = search needs

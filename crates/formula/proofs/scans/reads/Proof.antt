@@ -1,8 +1,8 @@
--- `formula::reads::reads` meets its contract. Assumes nothing.
+-- `formula::scans::reads` meets its contract. Assumes nothing.
 use Rattle.formula.proofs.ScanLaws.{reads-none, reads-one}
 use borrow.Author.Needs.{needs}
-use Rattle.formula.proofs.reads.reads.Statement.{statement}
-use Rattle.formula.proofs.reads.reads.Tie as tie
+use Rattle.formula.proofs.scans.reads.Statement.{statement}
+use Rattle.formula.proofs.scans.reads.Tie as tie
 
 name-requires : tie.Need-name-requires
 name-requires c κs = search needs

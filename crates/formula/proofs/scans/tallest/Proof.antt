@@ -1,4 +1,4 @@
--- `formula::reads::tallest` meets its contract. Assumes nothing.
+-- `formula::scans::tallest` meets its contract. Assumes nothing.
 use Rattle.formula.proofs.ScanLaws.{taller-start}
 use borrow.Author.Needs.{needs}
 use native.Mathlib.Omega.{arith}
@@ -6,8 +6,8 @@ use mathlib.Core.Path.{_≡_, sym, _∙_}
 use Rattle.formula.proofs.ScanLaws.{taller-turns, taller-done}
 use Rattle.formula.specs.Names.{named, tallest, tallestIn}
 use Prim.Native.Nat.{_-_, _≤_, max}
-use Rattle.formula.proofs.reads.tallest.Statement.{statement}
-use Rattle.formula.proofs.reads.tallest.Tie as tie
+use Rattle.formula.proofs.scans.tallest.Statement.{statement}
+use Rattle.formula.proofs.scans.tallest.Tie as tie
 
 abbrev Inv-loop : tie.InvT-loop
 Inv-loop nodes cells end i₀ most₀ i most = (i ≤ end) × (max most (tallest nodes (named cells (end - i) i)) ≡ tallestIn nodes cells)

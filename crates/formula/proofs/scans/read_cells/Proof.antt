@@ -1,4 +1,4 @@
--- `formula::reads::read_cells` meets its contract. Assumes nothing.
+-- `formula::scans::read_cells` meets its contract. Assumes nothing.
 use Rattle.formula.proofs.ScanLaws.{reads-start, reads-most}
 use borrow.Author.Needs.{needs}
 use native.Mathlib.Omega.{arith}
@@ -7,8 +7,8 @@ use Rattle.formula.proofs.ScanLaws.{reads-turns, reads-done}
 use Rattle.formula.specs.Names.{named, readCells, isRead}
 use Prim.Native.Nat.{_+_, _-_, _≤_}
 use lib.ListN.{length}
-use Rattle.formula.proofs.reads.read_cells.Statement.{statement}
-use Rattle.formula.proofs.reads.read_cells.Tie as tie
+use Rattle.formula.proofs.scans.read_cells.Statement.{statement}
+use Rattle.formula.proofs.scans.read_cells.Tie as tie
 
 abbrev Inv-loop : tie.InvT-loop
 Inv-loop cells end i₀ count₀ i count = (i ≤ end) × (count ≤ i) × (count + length (named cells (end - i) i) ≡ readCells cells)
