@@ -120,29 +120,30 @@ pub fn propagate(nodes: &mut [u64], links: &[u64], s: u64)
         left -= 1;
         let sub = words::get(links, LINK, link, SUB);
         let flags = reach(nodes, links, link, sub);
-        if let Slot::At(down) = below(nodes, sub, flags) {
-            link = down;
-            let over = words::get(links, LINK, down, NEXT_SUB);
-            if let Slot::At(_) = slots::open(over) {
-                len = stack::push(&mut stack, len, next);
-                next = over;
-            }
-            continue 'top;
-        }
-        if let Slot::At(along) = slots::open(next) {
+        let Slot::At(down) = below(nodes, sub, flags) else {
+            let Slot::At(along) = slots::open(next) else {
+                while let Popped::Top(w, rest) = stack::pop(&stack, len) {
+                    len = rest;
+                    let Slot::At(back) = slots::open(w) else {
+                        continue;
+                    };
+                    link = back;
+                    next = words::get(links, LINK, back, NEXT_SUB);
+                    continue 'top;
+                }
+                return;
+            };
             link = along;
             next = words::get(links, LINK, along, NEXT_SUB);
             continue 'top;
-        }
-        while let Popped::Top(w, rest) = stack::pop(&stack, len) {
-            len = rest;
-            if let Slot::At(back) = slots::open(w) {
-                link = back;
-                next = words::get(links, LINK, back, NEXT_SUB);
-                continue 'top;
-            }
-        }
-        return;
+        };
+        link = down;
+        let over = words::get(links, LINK, down, NEXT_SUB);
+        let Slot::At(_) = slots::open(over) else {
+            continue 'top;
+        };
+        len = stack::push(&mut stack, len, next);
+        next = over;
     }
 }
 

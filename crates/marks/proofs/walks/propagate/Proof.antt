@@ -29,20 +29,106 @@ abbrev μ-top : tie.MeasureT-top
 
 -- where the turn does not go down
 flat :
-    (c : tie.After-open2 Inv-loop μ-loop Inv-top μ-top)
+    (c : tie.After-open Inv-loop μ-loop Inv-top μ-top)
     → (let L = c .before .before .before .before .before .before .before .before .before .before .before .before .before .before .before .args .links .now in
     let v = c .before .before .before .before .before .before .before .before .before .before .before .top in
     let w = place (v .link) (v .next) (v .stack) (v .len) in
-    walked L (v .left) (v .nodes) w ≡ along (walked L (v .left - 1)) L (c .before .before .before .before .before .before .before .reach .last .0) w (c .open2 .result))
+    walked L (v .left) (v .nodes) w ≡ along (walked L (v .left - 1)) L (c .before .before .before .before .before .before .before .reach .last .0) w (c .«open» .result))
 flat c =
     turn-flat _ _ _ _ (c .before .before .before .before .before .before .before .before .before .before .top-test .taken) (c .before .before .before .before .before .before .before .before .before .get2 .ensures) (c .before .before .before .before .before .before .before .reach .ensures .0) (c .before .before .before .before .before .before .before .reach .ensures .1) (c .before .before .before .below .ensures)
-    (c .before .enum-told3 .given .1) (c .open2 .ensures)
+    (c .before .enum-told .given .1) (c .«open» .ensures)
 
 top-holds : tie.Need-top-holds Inv-loop μ-loop Inv-top μ-top
 top-holds c = record { long = refl; whole = refl; same = refl }
 
+loop-holds : tie.Need-loop-holds Inv-loop μ-loop Inv-top μ-top
+loop-holds c = refl
+
+loop-less : tie.Need-loop-less Inv-loop μ-loop Inv-top μ-top
+loop-less c = pop-less _ _ (c .before .before .before .before .before .before .pop .ensures) (c .before .before .before .before .w .given .1)
+
+loop-again : tie.Need-loop-again Inv-loop μ-loop Inv-top μ-top
+loop-again c =
+    let c₁ = c .before .before in
+    let c₂ = c₁ .before .before in
+    let c₃ = c₂ .before .before in
+    let c₄ = c₃ .before .before in
+    sym (back-none _ _ _ _ _ (c₃ .pop .ensures) (c₂ .w .given .1) (c₁ .open2 .ensures) (c .enum-told3 .given .1)) ∙ c₄ .loop .inv
+
 top-again : tie.Need-top-again Inv-loop μ-loop Inv-top μ-top
 top-again c =
+    let c₁ = c .before .before in
+    let c₂ = c₁ .before .before in
+    let c₃ = c₂ .before .before in
+    let c₄ = c₃ .before .before in
+    let c₅ = c₄ .before .before in
+    let c₆ = c₅ .before in
+    let c₇ = c₆ .before .before in
+    let c₈ = c₇ .before .before .before .before .before .before .before in
+    let c₉ = c₈ .before .before .before .before in
+    let v = c₉ .top in
+    let e = flat (c₇) ∙ along-none _ _ _ _ (c₆ .enum-told2 .given .1) ∙ sym (c₅ .loop .inv) in
+    let d = back-slot _ _ _ _ _ (c₄ .pop .ensures) (c₃ .w .given .1) (c₂ .open2 .ensures) (c₁ .back .given .1) (c .get3 .ensures) in
+    record {
+      long = c₈ .reach .kept .0 ∙ v .inv .long;
+      whole = v .inv .whole;
+      same = sym (e ∙ d) ∙ v .inv .same;
+    }
+
+same-length : tie.Need-same-length Inv-loop μ-loop Inv-top μ-top
+same-length c = c .before .before .before .before .before .before .before .before .before .before .before .before .before .before .reach .kept .0 ∙ c .before .before .before .before .before .before .before .before .before .before .before .before .before .before .before .before .before .before .top .inv .long
+
+returns : tie.Need-returns Inv-loop μ-loop Inv-top μ-top
+unfolding propagated
+returns c =
+    let c₁ = c .before .before in
+    let c₂ = c₁ .before .before in
+    let c₃ = c₂ .before in
+    let c₄ = c₃ .before .before in
+    let c₅ = c₄ .before .before .before .before .before .before .before .before .before .before .before in
+    let c₆ = c₅ .before in
+    let v = c₅ .top in
+    let e = flat (c₄) ∙ along-none _ _ _ _ (c₃ .enum-told2 .given .1) ∙ sym (c₂ .loop .inv) in
+    let d = back-end _ _ _ _ _ (c₁ .pop .ensures) (c .enum-told4 .given .1) in
+    rw (← c₆ .get .ensures) (sym (e ∙ d) ∙ v .inv .same)
+
+top-again-2 : tie.Need-top-again-2 Inv-loop μ-loop Inv-top μ-top
+top-again-2 c =
+    let c₁ = c .before .before in
+    let c₂ = c₁ .before .before in
+    let c₃ = c₂ .before .before .before .before .before .before .before in
+    let c₄ = c₃ .before .before .before .before in
+    let v = c₄ .top in
+    record {
+      long = c₃ .reach .kept .0 ∙ v .inv .long;
+      whole = v .inv .whole;
+      same = sym (flat (c₂) ∙ along-slot _ _ _ _ (c₁ .along .given .1) (c .get4 .ensures)) ∙ v .inv .same;
+    }
+
+top-again-3 : tie.Need-top-again-3 Inv-loop μ-loop Inv-top μ-top
+top-again-3 c =
+    let c₁ = c .before .before in
+    let c₂ = c₁ .before in
+    let c₃ = c₂ .before .before in
+    let c₄ = c₃ .before .before in
+    let c₅ = c₄ .before .before .before .before in
+    let c₆ = c₅ .before .before in
+    let c₇ = c₆ .before in
+    let c₈ = c₇ .before in
+    let c₉ = c₈ .before .before .before .before in
+    let v = c₈ .top in
+    let L = c₉ .args .links .now in
+    let w = place (v .link) (v .next) (v .stack) (v .len) in
+    let e = turn-down L (v .nodes) (v .left) w (c₇ .top-test .taken) (c₆ .get2 .ensures) (c₅ .reach .ensures .0) (c₅ .reach .ensures .1) (c₄ .below .ensures) (c₃ .down .given .1) in
+    let d = down-flat L w _ (c₂ .get5 .ensures) (c₁ .open3 .ensures) (c .enum-told6 .given .1) in
+    record {
+      long = c₅ .reach .kept .0 ∙ v .inv .long;
+      whole = v .inv .whole;
+      same = sym (e ∙ ap (walked L (v .left - 1) (c₅ .reach .last .0)) d) ∙ v .inv .same;
+    }
+
+top-again-4 : tie.Need-top-again-4 Inv-loop μ-loop Inv-top μ-top
+top-again-4 c =
     let c₁ = c .before in
     let c₂ = c₁ .before .before in
     let c₃ = c₂ .before .before in
@@ -58,98 +144,12 @@ top-again c =
     let L = c₁₁ .args .links .now in
     let w = place (v .link) (v .next) (v .stack) (v .len) in
     let e = turn-down L (v .nodes) (v .left) w (c₉ .top-test .taken) (c₈ .get2 .ensures) (c₇ .reach .ensures .0) (c₇ .reach .ensures .1) (c₆ .below .ensures) (c₅ .down .given .1) in
-    let d = down-push L w _ (c₄ .get3 .ensures) (c₃ .«open» .ensures) (c₂ .enum-told .given .1) in
+    let d = down-push L w _ (c₄ .get5 .ensures) (c₃ .open3 .ensures) (c₂ .enum-told5 .given .1) in
     record {
       long = c₇ .reach .kept .0 ∙ v .inv .long;
       whole = c₁ .push .kept .0 ∙ v .inv .whole;
       same = rw (c₁ .push .ensures .0, c₁ .push .ensures .1) (sym (e ∙ ap (walked L (v .left - 1) (c₇ .reach .last .0)) d) ∙ v .inv .same);
     }
-
-top-again-2 : tie.Need-top-again-2 Inv-loop μ-loop Inv-top μ-top
-top-again-2 c =
-    let c₁ = c .before .before in
-    let c₂ = c₁ .before in
-    let c₃ = c₂ .before .before in
-    let c₄ = c₃ .before .before in
-    let c₅ = c₄ .before .before .before .before in
-    let c₆ = c₅ .before .before in
-    let c₇ = c₆ .before in
-    let c₈ = c₇ .before in
-    let c₉ = c₈ .before .before .before .before in
-    let v = c₈ .top in
-    let L = c₉ .args .links .now in
-    let w = place (v .link) (v .next) (v .stack) (v .len) in
-    let e = turn-down L (v .nodes) (v .left) w (c₇ .top-test .taken) (c₆ .get2 .ensures) (c₅ .reach .ensures .0) (c₅ .reach .ensures .1) (c₄ .below .ensures) (c₃ .down .given .1) in
-    let d = down-flat L w _ (c₂ .get3 .ensures) (c₁ .«open» .ensures) (c .enum-told2 .given .1) in
-    record {
-      long = c₅ .reach .kept .0 ∙ v .inv .long;
-      whole = v .inv .whole;
-      same = sym (e ∙ ap (walked L (v .left - 1) (c₅ .reach .last .0)) d) ∙ v .inv .same;
-    }
-
-top-again-3 : tie.Need-top-again-3 Inv-loop μ-loop Inv-top μ-top
-top-again-3 c =
-    let c₁ = c .before .before in
-    let c₂ = c₁ .before .before in
-    let c₃ = c₂ .before .before .before .before .before .before .before in
-    let c₄ = c₃ .before .before .before .before in
-    let v = c₄ .top in
-    record {
-      long = c₃ .reach .kept .0 ∙ v .inv .long;
-      whole = v .inv .whole;
-      same = sym (flat (c₂) ∙ along-slot _ _ _ _ (c₁ .along .given .1) (c .get4 .ensures)) ∙ v .inv .same;
-    }
-
-loop-holds : tie.Need-loop-holds Inv-loop μ-loop Inv-top μ-top
-loop-holds c = refl
-
-top-again-4 : tie.Need-top-again-4 Inv-loop μ-loop Inv-top μ-top
-top-again-4 c =
-    let c₁ = c .before .before in
-    let c₂ = c₁ .before .before in
-    let c₃ = c₂ .before .before in
-    let c₄ = c₃ .before .before in
-    let c₅ = c₄ .before .before in
-    let c₆ = c₅ .before in
-    let c₇ = c₆ .before .before in
-    let c₈ = c₇ .before .before .before .before .before .before .before in
-    let c₉ = c₈ .before .before .before .before in
-    let v = c₉ .top in
-    let e = flat (c₇) ∙ along-none _ _ _ _ (c₆ .enum-told4 .given .1) ∙ sym (c₅ .loop .inv) in
-    let d = back-slot _ _ _ _ _ (c₄ .pop .ensures) (c₃ .w .given .1) (c₂ .open3 .ensures) (c₁ .back .given .1) (c .get5 .ensures) in
-    record {
-      long = c₈ .reach .kept .0 ∙ v .inv .long;
-      whole = v .inv .whole;
-      same = sym (e ∙ d) ∙ v .inv .same;
-    }
-
-loop-less : tie.Need-loop-less Inv-loop μ-loop Inv-top μ-top
-loop-less c = pop-less _ _ (c .before .before .before .before .before .before .pop .ensures) (c .before .before .before .before .w .given .1)
-
-loop-again : tie.Need-loop-again Inv-loop μ-loop Inv-top μ-top
-loop-again c =
-    let c₁ = c .before .before in
-    let c₂ = c₁ .before .before in
-    let c₃ = c₂ .before .before in
-    let c₄ = c₃ .before .before in
-    sym (back-none _ _ _ _ _ (c₃ .pop .ensures) (c₂ .w .given .1) (c₁ .open3 .ensures) (c .enum-told5 .given .1)) ∙ c₄ .loop .inv
-
-same-length : tie.Need-same-length Inv-loop μ-loop Inv-top μ-top
-same-length c = c .before .before .before .before .before .before .before .before .before .before .before .before .before .before .reach .kept .0 ∙ c .before .before .before .before .before .before .before .before .before .before .before .before .before .before .before .before .before .before .top .inv .long
-
-returns : tie.Need-returns Inv-loop μ-loop Inv-top μ-top
-unfolding propagated
-returns c =
-    let c₁ = c .before .before in
-    let c₂ = c₁ .before .before in
-    let c₃ = c₂ .before in
-    let c₄ = c₃ .before .before in
-    let c₅ = c₄ .before .before .before .before .before .before .before .before .before .before .before in
-    let c₆ = c₅ .before in
-    let v = c₅ .top in
-    let e = flat (c₄) ∙ along-none _ _ _ _ (c₃ .enum-told4 .given .1) ∙ sym (c₂ .loop .inv) in
-    let d = back-end _ _ _ _ _ (c₁ .pop .ensures) (c .enum-told6 .given .1) in
-    rw (← c₆ .get .ensures) (sym (e ∙ d) ∙ v .inv .same)
 
 same-length-2 : tie.Need-same-length-2 Inv-loop μ-loop Inv-top μ-top
 same-length-2 c = c .before .top .inv .long
@@ -176,22 +176,9 @@ propagate-spec =
     (λ c κs. search needs)
     (λ c κs. search needs)
     (λ c. search needs)
-    (λ c κs. search needs)
-    (λ c κs. search needs)
-    (λ c. search needs)
     (λ c. search needs)
     (λ c κs. search needs)
     (λ c. search needs)
-    (λ c. search needs)
-    top-again
-    (λ c. search needs)
-    top-again-2
-    (λ c. search needs)
-    (λ c κs. search needs)
-    (λ c. search needs)
-    (λ c κs. search needs)
-    (λ c. search needs)
-    top-again-3
     (λ c. search needs)
     loop-holds
     (λ c. search needs)
@@ -199,14 +186,27 @@ propagate-spec =
     (λ c. search needs)
     (λ c κs. search needs)
     (λ c. search needs)
-    (λ c κs. search needs)
-    (λ c. search needs)
-    top-again-4
     (λ c. search needs)
     loop-less
     loop-again
+    (λ c κs. search needs)
+    (λ c. search needs)
+    top-again
     (λ c. search needs)
     same-length
     returns
+    (λ c κs. search needs)
+    (λ c. search needs)
+    top-again-2
+    (λ c κs. search needs)
+    (λ c κs. search needs)
+    (λ c. search needs)
+    (λ c. search needs)
+    (λ c. search needs)
+    top-again-3
+    (λ c. search needs)
+    (λ c κs. search needs)
+    (λ c. search needs)
+    top-again-4
     same-length-2
     returns-2)
