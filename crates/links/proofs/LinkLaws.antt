@@ -1,8 +1,10 @@
--- The four ways of link, as the code finds them; link where no slot is free; what link leaves alone. Assumes nothing.
+-- What is_newest tests and the four ways of link, as the code finds them; link where no slot is free; what link leaves alone. Assumes nothing.
 use mathlib.Core.Path.{_≡_, refl, sym, ap, _∙_}
 use mathlib.Core.Bool.{Bool, true, false}
+use mathlib.Core.List.{List}
 use Prim.Native.Nat.{ℕ}
 use native.Mathlib.Omega.{arith}
+use lib.Dec.{eqb}
 use lib.ListN.{getD}
 use Rattle.primitive.specs.Slots.{slotOf}
 use Rattle.primitive.specs.declared.slots.Slot.{Slot}
@@ -10,11 +12,29 @@ use Rattle.primitive.specs.declared.slots.Slot.the-variants.{At, Nothing}
 use Rattle.links.specs.declared.link.LinkInit.{LinkInit}
 use Rattle.links.specs.Free.{taken, takenOn}
 use Rattle.links.specs.Neighbours.{nextDep}
-use Rattle.links.specs.Link.{names, newest, written, made, madeOn, setBack, setBackOn, joined, inserted, insertedOn, reused, reusedOn, initOf, linked}
-use Rattle.primitive.specs.Words.{FREE, LIVE, VERSION, DEP, SUB, PREV-SUB, NEXT-SUB, PREV-DEP, NEXT-DEP, DEPS, DEPS-TAIL, SUBS, SUBS-TAIL, node}
+use Rattle.links.specs.Link.{names, newest, newestOn, written, made, madeOn, setBack, setBackOn, joined, inserted, insertedOn, reused, reusedOn, initOf, linked}
+use Rattle.primitive.specs.Words.{FREE, LIVE, VERSION, DEP, SUB, PREV-SUB, NEXT-SUB, PREV-DEP, NEXT-DEP, DEPS, DEPS-TAIL, SUBS, SUBS-TAIL, node, link}
 use Rattle.links.specs.Table.{Tab, tab}
 use Rattle.links.proofs.Untouched.{Untouched, untouched-refl, then, by-node, by-link, by-head, by-beside}
 
+-- ---- a slot's version and subscriber, as is_newest tests them
+module _ (l : List ℕ) (sub version : ℕ) {o : Slot} where
+  pub newest-none : o ≡ Nothing → false ≡ newestOn o l sub version
+  newest-none d = sym (ap (λ (x : Slot). newestOn x l sub version) d)
+
+  module _ {s v : ℕ} {b : Bool} (d : o ≡ At s) (e : v ≡ link l s VERSION) (g : b ≡ eqb v version) where
+    at-version : {c : Bool} → b ≡ c → newestOn o l sub version ≡ elim c [ true ↦ eqb (link l s SUB) sub | false ↦ false ]
+    at-version h =
+        ap (λ (x : Slot). newestOn x l sub version) d
+        ∙ ap (λ (x : Bool). elim x [ true ↦ eqb (link l s SUB) sub | false ↦ false ]) (ap (λ (x : ℕ). eqb x version) (sym e) ∙ sym g ∙ h)
+
+    pub newest-same : b ≡ true → {x : ℕ} → x ≡ link l s SUB → eqb x sub ≡ newestOn o l sub version
+    newest-same h f = sym (at-version h ∙ ap (λ (x : ℕ). eqb x sub) (sym f))
+
+    pub newest-other : b ≡ false → false ≡ newestOn o l sub version
+    newest-other h = sym (at-version h)
+
+-- ---- the four ways
 module _ (t : Tab) (dep sub version : ℕ) {p : ℕ} {a : Bool} (tail : p ≡ node (t .nodes) sub DEPS-TAIL) (named : a ≡ names (t .links) p dep) where
   at-tail : {b : Bool} → a ≡ b → names (t .links) (node (t .nodes) sub DEPS-TAIL) dep ≡ b
   at-tail h = ap (λ (x : ℕ). names (t .links) x dep) (sym tail) ∙ sym named ∙ h
@@ -34,20 +54,17 @@ module _ (t : Tab) (dep sub version : ℕ) {p : ℕ} {a : Bool} (tail : p ≡ no
     unfolding linked initOf
     link-again h e = rw (at-tail past, at-next h, linked) (e ∙ ap (reused t sub version) follows)
 
-    module _ (more : b ≡ false) {q : ℕ} {c : Bool} (last : q ≡ node (t .nodes) dep SUBS-TAIL) (new : c ≡ newest (t .links) q sub version) where
-      at-last : {d : Bool} → c ≡ d → newest (t .links) (node (t .nodes) dep SUBS-TAIL) sub version ≡ d
-      at-last h = ap (λ (x : ℕ). newest (t .links) x sub version) (sym last) ∙ sym new ∙ h
-
+    module _ (more : b ≡ false) {c : Bool} (new : c ≡ newest t dep sub version) where
       pub link-newest : c ≡ true → t ≡ linked t dep sub version
       unfolding linked initOf
-      link-newest h = rw (at-tail past, at-next more, at-last h, linked)
+      link-newest h = rw (at-tail past, at-next more, sym new ∙ h, linked)
 
-      pub link-made : c ≡ false → {u : Tab}
+      pub link-made : c ≡ false → {q : ℕ} {u : Tab} → q ≡ node (t .nodes) dep SUBS-TAIL
           → u ≡ inserted t (record { version = version; dep = dep; sub = sub; «prev_dep» = p; «next_dep» = n; «prev_sub» = q })
           → u ≡ linked t dep sub version
       unfolding linked initOf
-      link-made h e =
-          rw (at-tail past, at-next more, at-last h, linked) (e ∙ rw (tail, last, follows))
+      link-made h last e =
+          rw (at-tail past, at-next more, sym new ∙ h, linked) (e ∙ rw (tail, last, follows))
 
 -- ---- no slot is free: nothing at all changes
 pub inserted-full : (t : Tab) (i : LinkInit) → getD (t .links) FREE 0 ≡ 0 → inserted t i ≡ t
@@ -115,7 +132,7 @@ linked-untouched t dep sub version =
     let i = initOf t dep sub version in
     branch (names (t .links) (i .«prev_dep») dep) (untouched-refl t)
     (branch (names (t .links) (i .«next_dep») dep) (reused-untouched t sub version (i .«next_dep»))
-    (branch (newest (t .links) (i .«prev_sub») sub version) (untouched-refl t) (inserted-untouched t i)))
+    (branch (newest t dep sub version) (untouched-refl t) (inserted-untouched t i)))
   where
     branch : (b : Bool) {x y : Tab} → Untouched t x → Untouched t y → Untouched t (elim b [ true ↦ x | false ↦ y ])
     branch true p q = p

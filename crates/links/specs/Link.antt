@@ -24,9 +24,9 @@ abbrev pub newestOn : Slot → List ℕ → ℕ → ℕ → Bool
 newestOn Nothing l sub version = false
 newestOn (At s) l sub version = elim (eqb (link l s VERSION) version) [ true ↦ eqb (link l s SUB) sub | false ↦ false ]
 
--- the slot that w names is of this version and of sub
-unfoldable pub newest : List ℕ → ℕ → ℕ → ℕ → Bool
-newest l w sub version = newestOn (slotOf w) l sub version
+-- dep's last subscriber is sub at this version
+unfoldable pub newest : Tab → ℕ → ℕ → ℕ → Bool
+newest t dep sub version = newestOn (slotOf (node (t .nodes) dep SUBS-TAIL)) (t .links) sub version
 
 -- the words of a link
 unfoldable pub written : List ℕ → ℕ → LinkInit → List ℕ
@@ -94,6 +94,6 @@ linked t dep sub version =
       | true ↦ t
       | false ↦ elim (names (t .links) (i .«next_dep») dep) [
         | true ↦ reused t sub version (i .«next_dep»)
-        | false ↦ elim (newest (t .links) (i .«prev_sub») sub version) [ true ↦ t | false ↦ inserted t i ]
+        | false ↦ elim (newest t dep sub version) [ true ↦ t | false ↦ inserted t i ]
       ]
     ]

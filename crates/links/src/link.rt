@@ -44,11 +44,11 @@ fn names(links: &[u64], w: u64, dep: u64) -> bool
     words::get(links, LINK, s, DEP) == dep
 }
 
-// Whether the slot that w names is of this version and of sub.
-fn is_newest(links: &[u64], w: u64, sub: u64, version: Version) -> bool
-    ensures { λ r. ⌜ r ≡ newest (now (links .entry)) w sub (version .cycle) ⌝ }
+// Whether dep's last subscriber is sub at this version.
+fn is_newest(nodes: &[u64], links: &[u64], dep: u64, sub: u64, version: Version) -> bool
+    ensures { λ r. ⌜ r ≡ newest (tab (now (nodes .entry)) (now (links .entry))) dep sub (version .cycle) ⌝ }
 {
-    let Slot::At(s) = slots::open(w) else {
+    let Slot::At(s) = slots::open(words::get(nodes, NODE, dep, SUBS_TAIL)) else {
         return false;
     };
     let used = Version {
@@ -125,8 +125,7 @@ pub fn link(nodes: &mut [u64], links: &mut [u64], dep: u64, sub: u64, version: V
         reuse(nodes, links, sub, version, next_dep);
         return;
     }
-    let prev_sub = words::get(nodes, NODE, dep, SUBS_TAIL);
-    if is_newest(links, prev_sub, sub, version) {
+    if is_newest(nodes, links, dep, sub, version) {
         return;
     }
     let init = LinkInit {
@@ -135,7 +134,7 @@ pub fn link(nodes: &mut [u64], links: &mut [u64], dep: u64, sub: u64, version: V
         sub: sub,
         prev_dep: prev_dep,
         next_dep: next_dep,
-        prev_sub: prev_sub,
+        prev_sub: words::get(nodes, NODE, dep, SUBS_TAIL),
     };
     insert(nodes, links, init);
 }
