@@ -1,4 +1,5 @@
 // A value is a signed 64-bit number. Nothing else knows it: how two are added, compared and told apart is said here.
+use crate::words;
 ghost use mathlib.Core.Path.{_≡_};
 ghost use lib.IntN.{_+ℤ_, _-ℤ_};
 ghost use Rattle.primitive.specs.Values.{clamp, value, sum, difference, minimum, maximum, less, isZero, same, valueAt, setValue};
@@ -97,13 +98,12 @@ fn saturating_sub(a: i64, b: i64) -> i64
 pub fn load(t: &[i64], p: u64) -> Value
     ensures { λ r. ⌜ r ≡ valueAt (now (t .entry)) p ⌝ }
 {
-    let k = p as usize;
-    if k < t.len() {
-        if k * 2 < t.len() {
-            return Value { word: t[k * 2] };
-        }
+    if p as usize >= t.len() {
+        return Value { word: 0 };
     }
-    Value { word: 0 }
+    Value {
+        word: words::signed_at(t, p * 2),
+    }
 }
 
 pub fn keep(t: &mut [i64], p: u64, v: Value)
