@@ -67,7 +67,7 @@ module _ (ws : List ℤ) where
           rw (ne-eqb owed 0 z, settled, e, m, add-one)
 
   -- ---- the names
-  named-turns : (i : ℕ) → i < length ws / 2
+  pub named-turns : (i : ℕ) → i < length ws / 2
       → named ws (length ws / 2 - i) i ≡ orElse (nameOf (cellAt ws i)) (named ws (length ws / 2 - (i + 1)) (i + 1)) (λ (n : ℕ). n ∷ named ws (length ws / 2 - (i + 1)) (i + 1))
   unfolding named
   named-turns i h = go (length ws / 2 - i) refl
@@ -77,7 +77,7 @@ module _ (ws : List ℤ) where
       go zero q = absurd (omega arith)
       go (suc k) q = let m : length ws / 2 - (i + 1) ≡ k = omega arith in rw (m, add-one)
 
-  named-done : (i : ℕ) → length ws / 2 ≤ i → named ws (length ws / 2 - i) i ≡ []
+  pub named-done : (i : ℕ) → length ws / 2 ≤ i → named ws (length ws / 2 - i) i ≡ []
   unfolding named
   named-done i h = let z : length ws / 2 - i ≡ 0 = omega arith in rw z
 

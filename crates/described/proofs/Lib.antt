@@ -1,0 +1,5 @@
+pub mod LevelLaws
+pub mod FormulaLaws
+pub mod NodeLaws
+pub mod Examples
+pub mod Exact

@@ -1,0 +1,5 @@
+pub mod Formulas
+pub mod Levels
+pub mod Nodes
+pub mod Whole
+pub mod Rules
