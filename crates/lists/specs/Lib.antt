@@ -1,0 +1,4 @@
+pub mod Sum
+pub mod Walk
+pub mod Each
+pub mod Once
