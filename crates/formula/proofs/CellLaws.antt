@@ -47,14 +47,14 @@ module _ (k : ℤ) (f : SFits w64 k) where
 
 -- ---- what the number says of a code or an operand
 module _ (k : ℤ) {r : Number} (found : r ≡ naturalOf k) where
-  natural-pos : (n : ℕ) → r ≡ Is n → k ≡ pos n
+  pub natural-pos : (n : ℕ) → r ≡ Is n → k ≡ pos n
   natural-pos n e = go k (sym found ∙ e)
     where
       go : (z : ℤ) → naturalOf z ≡ Is n → z ≡ pos n
       go (pos m) u = let q : m ≡ n = cc in ap pos q
       go (negsuc m) u = let z : _≡_ {A = ℕ} 0 1 = cc in absurd (omega arith)
 
-  natural-neg : (P : ℤ → Type 0) → r ≡ None → ((n : ℕ) → P (negsuc n)) → P k
+  pub natural-neg : (P : ℤ → Type 0) → r ≡ None → ((n : ℕ) → P (negsuc n)) → P k
   natural-neg P e h = go k (sym found ∙ e)
     where
       go : (z : ℤ) → naturalOf z ≡ None → P z

@@ -27,7 +27,7 @@ pub enum Number {
     None,
 }
 
-fn natural(k: i64) -> Number
+pub fn natural(k: i64) -> Number
     ensures { λ r. ⌜ r ≡ naturalOf k ⌝ }
 {
     if k < 0 {

@@ -1,0 +1,9 @@
+pub mod CommandLaws
+pub mod AskLaws
+pub mod Sights
+pub mod Formulas
+pub mod NamingLaws
+pub mod MakingLaws
+pub mod BatchingLaws
+pub mod TableLaws
+pub mod Counted

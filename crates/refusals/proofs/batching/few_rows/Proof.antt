@@ -1,0 +1,17 @@
+-- `refusals::batching::few_rows` meets its contract. Assumes nothing.
+use Rattle.refusals.proofs.BatchingLaws.{few-by}
+use borrow.Author.Needs.{needs}
+use Rattle.refusals.proofs.batching.few_rows.Statement.{statement}
+use Rattle.refusals.proofs.batching.few_rows.Tie as tie
+
+command-of-requires : tie.Need-command-of-requires
+command-of-requires c κs = search needs
+
+wanted-rows-requires : tie.Need-wanted-rows-requires
+wanted-rows-requires c κs = search needs
+
+returns : tie.Need-returns
+returns c = few-by (c .before .before .before .args .nodes .now) (c .before .before .before .args .rows) _ (c .before .command-of .ensures) (c .wanted-rows .ensures)
+
+pub few-rows-spec : {M : Type 1} → statement M
+few-rows-spec = tie.close (tie.spec command-of-requires wanted-rows-requires returns)

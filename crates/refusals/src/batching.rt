@@ -1,0 +1,70 @@
+// Rows 8 and 9 of the table: the batch depth, and the rows of the log.
+use crate::commands::Command;
+use crate::commands::command_of;
+use counts::reserve::live_effects;
+use primitive::rows::DEPTH;
+use primitive::words;
+ghost use mathlib.Core.Path.{_≡_};
+ghost use mathlib.Core.List.{[]};
+ghost use Rattle.meaning.specs.Words.{commandOf};
+ghost use Rattle.meaning.specs.Refusals.{on, flushRows, wrongDepth, fewRows};
+ghost use Rattle.refusals.specs.Sight.{nodesAlone, sightIn};
+ghost use Rattle.refusals.specs.Asked.{wanted};
+
+pub const MOST_DEPTH: u64 = 64;
+
+// 8: end at depth 0, or start at depth 64.
+pub fn wrong_depth(nodes: &[u64], words: &[i64]) -> bool
+    ensures { λ r. ⌜ r ≡ on (commandOf (now (words .entry))) (wrongDepth (nodesAlone (now (nodes .entry)))) ⌝ }
+{
+    let depth = words::at(nodes, DEPTH);
+    match command_of(words) {
+        Command::Signal(_) => false,
+        Command::Computed => false,
+        Command::Effect(_) => false,
+        Command::Scope(_) => false,
+        Command::Set(_, _) => false,
+        Command::Add(_, _) => false,
+        Command::Read(_) => false,
+        Command::Dispose(_) => false,
+        Command::Start => MOST_DEPTH <= depth,
+        Command::End => depth == 0,
+        Command::Unknown => false,
+    }
+}
+
+// As many rows as effects are live, where the depth is such that a flush follows.
+fn flush_rows(nodes: &[u64], depth: u64) -> u64
+    ensures { λ r. ⌜ r ≡ flushRows (nodesAlone (now (nodes .entry))) depth ⌝ }
+{
+    if words::at(nodes, DEPTH) == depth {
+        return live_effects(nodes);
+    }
+    0
+}
+
+// A new effect wants one row; a set or add at depth 0, or an end at depth 1, wants as many as effects are live.
+fn wanted_rows(nodes: &[u64], c: Command) -> u64
+    ensures { λ r. ⌜ r ≡ wanted (nodesAlone (now (nodes .entry))) c ⌝ }
+{
+    match c {
+        Command::Signal(_) => 0,
+        Command::Computed => 0,
+        Command::Effect(_) => 1,
+        Command::Scope(_) => 0,
+        Command::Set(_, _) => flush_rows(nodes, 0),
+        Command::Add(_, _) => flush_rows(nodes, 0),
+        Command::Read(_) => 0,
+        Command::Dispose(_) => 0,
+        Command::Start => 0,
+        Command::End => flush_rows(nodes, 1),
+        Command::Unknown => 0,
+    }
+}
+
+// 9: too few log rows.
+pub fn few_rows(nodes: &[u64], rows: u64, words: &[i64]) -> bool
+    ensures { λ r. ⌜ r ≡ on (commandOf (now (words .entry))) (fewRows (sightIn (now (nodes .entry)) [] [] rows)) ⌝ }
+{
+    rows < wanted_rows(nodes, command_of(words))
+}
