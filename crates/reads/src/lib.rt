@@ -7,5 +7,5 @@ pub mod rank;
 pub mod read;
 mod ring;
 mod signals;
-mod tests;
+pub mod tests;
 mod wakes;
