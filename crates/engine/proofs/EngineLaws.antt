@@ -1,0 +1,84 @@
+-- The ways through the decision and the answer, one law each. Assumes nothing.
+use mathlib.Core.Path.{_≡_, refl, sym, ap, _∙_, subst}
+use mathlib.Core.Bool.{Bool, true, false, _&&_}
+use mathlib.Core.List.{List}
+use Prim.Native.Nat.{ℕ, zero, suc, _+_, _/_, _^_, _<_}
+use native.Mathlib.Numerals.{add-one}
+use lib.IntN.{ℤ, pos, negsuc}
+use lib.ListN.{length}
+use mir.Syntax.{w64}
+use mir.Val.{SFits}
+use Rattle.formula.specs.declared.cells.Number.{Number}
+use Rattle.formula.specs.declared.cells.Number.the-variants.{Is, None}
+use Rattle.formula.specs.Cells.{naturalOf}
+use Rattle.formula.proofs.CellLaws.{natural-pos, natural-neg}
+use Rattle.described.specs.Whole.{describedIn}
+use Rattle.joined.specs.Joined.{joinedIn}
+use Rattle.reads.specs.Tables.{State, state}
+use Rattle.meaning.specs.Words.{commandOf, nodeOf}
+use Rattle.meaning.specs.Refusals.{Sight, table, first, refusal}
+use Rattle.refusals.specs.declared.commands.Command.{Command}
+use Rattle.refusals.specs.Sight.{sightIn}
+use Rattle.refusals.specs.Commands.{brief}
+use Rattle.refusals.specs.Asked.{formulaIn}
+use Rattle.operations.specs.Log.{Ran, ranTo, numberWord}
+use Rattle.operations.specs.Making.{Made}
+use Rattle.engine.specs.Tables.{wellFormedIn}
+use Rattle.engine.specs.Perform.{Done, done, ownerWord, numbered, performed}
+use Rattle.engine.specs.Command.{Answered, answered, accepted, refused, refusalIn, answer, commandIn}
+
+-- ---- numbers of nodes and owners
+module _ (k : ℤ) {r : Number} (found : r ≡ naturalOf k) where
+  pub node-is : (n : ℕ) → r ≡ Is n → n ≡ nodeOf k
+  node-is n e = sym (ap nodeOf (natural-pos k found n e))
+
+  pub node-none : r ≡ None → 0 ≡ nodeOf k
+  node-none e = natural-neg k found (λ (z : ℤ). 0 ≡ nodeOf z) e (λ n. refl)
+
+  pub owner-is : (n : ℕ) → r ≡ Is n → n + 1 ≡ ownerWord k
+  owner-is n e = add-one n ∙ sym (ap ownerWord (natural-pos k found n e))
+
+  pub owner-none : r ≡ None → 0 ≡ ownerWord k
+  owner-none e = natural-neg k found (λ (z : ℤ). 0 ≡ ownerWord z) e (λ n. refl)
+
+  pub owner-low : SFits w64 k → (n : ℕ) → r ≡ Is n → n < 2 ^ 63
+  owner-low f n e = subst (SFits w64) (natural-pos k found n e) f .sfits
+
+-- ---- the test
+module _ (n l : List ℕ) (v c : List ℤ) {d : Bool} (e : d ≡ describedIn n l v c) where
+  pub described-so : {j : Bool} → d ≡ true → j ≡ joinedIn n l c → j ≡ wellFormedIn n l v c
+  unfolding wellFormedIn
+  described-so h g = let z : describedIn n l v c ≡ true = sym e ∙ h in rw (z, wellFormedIn) g
+
+  pub described-not : d ≡ false → false ≡ wellFormedIn n l v c
+  unfolding wellFormedIn
+  described-not h = let z : describedIn n l v c ≡ false = sym e ∙ h in rw (z, wellFormedIn)
+
+-- ---- the decision
+module _ (n l : List ℕ) (v c g ws : List ℤ) {b : Bool} (e : b ≡ wellFormedIn n l v c) where
+  pub decided : {r : ℕ} → b ≡ true → r ≡ refusal true (sightIn n l c (length g / 2)) ws → r ≡ refusalIn n l v c g ws
+  unfolding refusalIn
+  decided h q = let z : wellFormedIn n l v c ≡ true = sym e ∙ h in rw (z, refusalIn) q
+
+  pub not-tables : b ≡ false → 1 ≡ refusalIn n l v c g ws
+  unfolding refusalIn refusal table first
+  not-tables h = let z : wellFormedIn n l v c ≡ false = sym e ∙ h in rw (z, refusalIn)
+
+-- ---- the answer
+module _ (n l : List ℕ) (v c g ws : List ℤ) {r : ℕ} (e : r ≡ refusalIn n l v c g ws) where
+  refused-by : (k : ℕ) → k ≡ refusalIn n l v c g ws → (k ≡ 0 → ⊥) → refused k n l v c g ≡ commandIn n l v c g ws
+  unfolding commandIn answer
+  refused-by zero q f = absurd (f refl)
+  refused-by (suc k) q f = rw (← q, commandIn, answer)
+
+  pub command-refused : (r ≡ 0 → ⊥) → refused r n l v c g ≡ commandIn n l v c g ws
+  command-refused f = refused-by r e f
+
+  pub command-done : {d : Done} → r ≡ 0 → d ≡ performed (state n l v) c g (brief (commandOf ws)) (formulaIn ws) → accepted d ≡ commandIn n l v c g ws
+  unfolding commandIn answer
+  command-done h q = let z : refusalIn n l v c g ws ≡ 0 = sym e ∙ h in rw (z, commandIn, answer, ← q)
+
+-- ---- doing
+pub numbered-by : (l : List ℤ) {m o : Made} {x : ℤ} → m ≡ o → x ≡ numberWord (m .number) → done x (ranTo (m .after) l 0) (m .cells) ≡ numbered l o
+unfolding numbered
+numbered-by l {m} p q = rw (← p, numbered, q)

@@ -1,0 +1,69 @@
+// One command on lent tables: words in; refusal number, value and number of runs out.
+use crate::perform::perform;
+use crate::tables::well_formed;
+use refusals::asks::cells_from;
+use refusals::commands::command_of;
+use refusals::table;
+ghost use mathlib.Core.Path.{_≡_};
+ghost use Rattle.engine.specs.Command.{refusalIn, answered, commandIn};
+
+// A refusal has value 0 and runs 0.
+pub struct Answer {
+    pub code: u64,
+    pub value: i64,
+    pub runs: u64,
+}
+
+// The first of the nine refusals that applies, or 0.
+pub fn refusal(
+    nodes: &[u64],
+    links: &[u64],
+    values: &[i64],
+    cells: &[i64],
+    log: &[i64],
+    words: &[i64],
+) -> u64
+    ensures { λ r. ⌜ r ≡ refusalIn (now (nodes .entry)) (now (links .entry)) (now (values .entry)) (now (cells .entry)) (now (log .entry)) (now (words .entry)) ⌝ }
+{
+    if well_formed(nodes, links, values, cells) {
+        return table::refusal(nodes, links, cells, (log.len() / 2) as u64, words);
+    }
+    1
+}
+
+// Refused, it changes nothing. Accepted, it is done, and its runs are the first rows of the log.
+pub fn command(
+    nodes: &mut [u64],
+    links: &mut [u64],
+    values: &mut [i64],
+    cells: &mut [i64],
+    log: &mut [i64],
+    words: &[i64],
+) -> Answer
+    ensures { λ r. ⌜ answered (r .code) (r .value) (r .runs) (now (nodes .exit)) (now (links .exit)) (now (values .exit)) (now (cells .exit)) (now (log .exit)) ≡ commandIn (now (nodes .entry)) (now (links .entry)) (now (values .entry)) (now (cells .entry)) (now (log .entry)) (now (words .entry)) ⌝ }
+{
+    let code = refusal(nodes, links, values, cells, log, words);
+    if code != 0 {
+        return Answer {
+            code: code,
+            value: 0,
+            runs: 0,
+        };
+    }
+    let from = cells_from(words);
+    let done = perform(
+        nodes,
+        links,
+        values,
+        cells,
+        log,
+        command_of(words),
+        &words[from..],
+    );
+    let runs = done.runs;
+    Answer {
+        code: 0,
+        value: done.value,
+        runs: runs,
+    }
+}
