@@ -1,7 +1,7 @@
 #!/usr/bin/env python3
 """Writes crates/meaning/specs/Setters.antt: the state with one column changed, and with one place of a column changed.
    tools/setters-meaning.py > crates/meaning/specs/Setters.antt"""
-FIELDS = [('room', 'Room', 0), ('size', 'ℕ', 0), ('kind', 'Kind', 1), ('form', 'Tree', 1), ('owner', 'Option ℕ', 1), ('gone', 'Bool', 1), ('level', 'ℕ', 1),
+FIELDS = [('room', 'Room', 0), ('size', 'ℕ', 0), ('used', 'ℕ', 0), ('kind', 'Kind', 1), ('form', 'Tree', 1), ('owner', 'Option ℕ', 1), ('gone', 'Bool', 1), ('level', 'ℕ', 1),
           ('fl', 'Named', 1), ('sto', 'Value', 1), ('pend', 'Value', 1), ('done', 'List ℕ', 1), ('rest', 'List ℕ', 1), ('subs', 'List ℕ', 1), ('live', 'Bool', 1),
           ('dep', 'ℕ', 1), ('sub', 'ℕ', 1), ('ver', 'ℕ', 1), ('free', 'List ℕ', 0), ('queue', 'List ℕ', 0), ('depth', 'ℕ', 0), ('cycle', 'ℕ', 0), ('log', 'List Row', 0), ('stuck', 'Bool', 0)]
 KEPT = {'room'}  # never changed

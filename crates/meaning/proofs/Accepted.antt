@@ -13,9 +13,9 @@ use Rattle.primitive.specs.Values.{value}
 use Rattle.formula.specs.Trees.{Tree, constant, size, nesting, names}
 use Rattle.meaning.specs.State.{St, Kind, signal, computed, readable}
 use Rattle.meaning.specs.Setters.{withLog}
-use Rattle.meaning.specs.Engine.{levelOf}
+use Rattle.meaning.specs.Engine.{levelOf, cellsOf}
 use Rattle.meaning.specs.Words.{Command, makeSignal, makeComputed, batchStart, batchEnd, commandOf, treeOf, treeOr, formulaOf}
-use Rattle.meaning.specs.Refusals.{Sight, sightOf, asksOf, isA, allReadable, legalTree, badFormula, tooHigh, noRoom, wrongDepth, table, refusal, usedCells, reserve, reserveOf, cellsOf, mostLevel, mostDepth}
+use Rattle.meaning.specs.Refusals.{Sight, sightOf, asksOf, isA, allReadable, legalTree, badFormula, tooHigh, noRoom, wrongDepth, table, refusal, reserve, reserveOf, mostLevel, mostDepth}
 use Rattle.meaning.specs.WellFormed.{In, WellFormed}
 use Rattle.meaning.specs.Commands.{perform, performAny, answer, command}
 use Rattle.meaning.proofs.Laws.{false≢true, or-left, or-right}
@@ -34,7 +34,7 @@ module _ (s : St) (rows : ℕ) (w : WellFormed s) where
 
   -- the log is no part of the tables
   logless : WellFormed (withLog s [])
-  unfolding usedCells reserve
+  unfolding reserve
   logless = record { lists = w .lists; depends = w .depends; limits = w .limits; by-kind = w .by-kind; queued = w .queued }
 
   -- ---- what rows 5, 6 and 7 leave
@@ -43,13 +43,13 @@ module _ (s : St) (rows : ℕ) (w : WellFormed s) where
       (leb-false (s .room .nodes) (s .size) (or-left (leb (s .room .nodes) (s .size)) (c || d) e), or-left c d (or-right (leb (s .room .nodes) (s .size)) (c || d) e), or-right c d (or-right (leb (s .room .nodes) (s .size)) (c || d) e))
 
   signal-fits : (x : ℤ) → noRoom v (makeSignal x) ≡ false → Fits (withLog s []) signal (constant (pos 0))
-  unfolding noRoom asksOf usedCells reserve size nesting names
+  unfolding noRoom asksOf reserve size nesting names
   signal-fits x e =
       let l = w .limits in
-      let r = room-left signal (constant (pos 0)) (ltb (s .room .cells) (usedCells s + 0)) (ltb (s .room .slots) (reserve s + 0)) e in
+      let r = room-left signal (constant (pos 0)) (ltb (s .room .cells) (s .used + 0)) (ltb (s .room .slots) (reserve s + 0)) e in
       record {
         room = r .0;
-        cells = ltb-false (s .room .cells) (usedCells s + 0) (r .1);
+        cells = ltb-false (s .room .cells) (s .used + 0) (r .1);
         slots = ltb-false (s .room .slots) (reserve s + 0) (r .2);
         known = λ m i. absurd i;
         few = omega arith;
@@ -67,19 +67,19 @@ module _ (s : St) (rows : ℕ) (w : WellFormed s) where
   readable-known (n ∷ ns) e m (inr i) = readable-known ns (and-both (isA v readable (pos n)) (allReadable v ns) e .1) m i
 
   computed-fits : (cs : List ℤ) → badFormula v (makeComputed cs) ≡ false → tooHigh v (makeComputed cs) ≡ false → noRoom v (makeComputed cs) ≡ false → Fits (withLog s []) computed (formulaOf cs)
-  unfolding badFormula tooHigh noRoom asksOf usedCells reserve
+  unfolding badFormula tooHigh noRoom asksOf reserve
   computed-fits cs a b c = go (treeOf cs) refl a b c
     where
       go : (o : Option Tree) → treeOf cs ≡ o → not (legalTree v o) ≡ false → ltb (mostLevel computed) (levelOf (s .level) computed (treeOr o) none) ≡ false
-          → leb (s .room .nodes) (s .size) || (ltb (s .room .cells) (usedCells s + cellsOf computed (treeOr o)) || ltb (s .room .slots) (reserve s + reserveOf computed false (treeOr o) none)) ≡ false
+          → leb (s .room .nodes) (s .size) || (ltb (s .room .cells) (s .used + cellsOf computed (treeOr o)) || ltb (s .room .slots) (reserve s + reserveOf computed false (treeOr o) none)) ≡ false
           → Fits (withLog s []) computed (treeOr o)
       go none q a b c = false≢true (sym a)
       go (some t) q a b c =
           let x = tree-exact cs t .0 q in
-          let r = room-left computed t (ltb (s .room .cells) (usedCells s + cellsOf computed t)) (ltb (s .room .slots) (reserve s + reserveOf computed false t none)) c in
+          let r = room-left computed t (ltb (s .room .cells) (s .used + cellsOf computed t)) (ltb (s .room .slots) (reserve s + reserveOf computed false t none)) c in
           record {
             room = r .0;
-            cells = ltb-false (s .room .cells) (usedCells s + cellsOf computed t) (r .1);
+            cells = ltb-false (s .room .cells) (s .used + cellsOf computed t) (r .1);
             slots = ltb-false (s .room .slots) (reserve s + reserveOf computed false t none) (r .2);
             known = readable-known (names t) (not-false (allReadable v (names t)) a);
             few = x .few;

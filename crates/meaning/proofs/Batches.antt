@@ -5,12 +5,12 @@ use native.Mathlib.Omega.{arith}
 use Rattle.meaning.specs.State.{St}
 use Rattle.meaning.specs.Setters.{withDepth}
 use Rattle.meaning.specs.Engine.{start, endAt}
-use Rattle.meaning.specs.Refusals.{mostDepth, usedCells, reserve}
+use Rattle.meaning.specs.Refusals.{mostDepth, reserve}
 use Rattle.meaning.specs.WellFormed.{WellFormed}
 
 -- another depth inside a batch
 deeper : (s : St) (d : ℕ) → suc d ≤ mostDepth → WellFormed s → WellFormed (withDepth s (suc d))
-unfolding usedCells reserve
+unfolding reserve
 deeper s d h w = record {
   lists = w .lists;
   depends = w .depends;

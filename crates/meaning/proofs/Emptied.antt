@@ -6,7 +6,7 @@ use mathlib.Core.List.{List, [], _∷_}
 use Prim.Native.Nat.{ℕ, zero, suc, _≤_, _<_}
 use native.Mathlib.Omega.{arith}
 use Rattle.meaning.specs.State.{St, Room, below, empty}
-use Rattle.meaning.specs.Refusals.{total, reserve, usedCells}
+use Rattle.meaning.specs.Refusals.{total, reserve}
 use Rattle.meaning.specs.WellFormed.{In, Once, WellFormed}
 use Rattle.meaning.specs.Commands.{capacities, emptying}
 use Rattle.meaning.proofs.Laws.{false≢true, branch}
@@ -63,7 +63,7 @@ module _ (r : Room) where
       go (inl a) = a
 
   pub empty-well-formed : WellFormed (empty r)
-  unfolding empty reserve usedCells total
+  unfolding empty reserve total
   empty-well-formed = record {
     lists = record {
       free-not-live = λ l i. (refl, free-in l i);

@@ -1,9 +1,9 @@
 -- What a command never changes: node and cell counts do not fall; kinds, formulas, owners, levels and gone marks, once given, stay. Assumes nothing.
-use mathlib.Core.Path.{_≡_, refl, sym, ap, ap₂, _∙_, subst}
+use mathlib.Core.Path.{_≡_, refl, ap, ap₂, _∙_}
 use mathlib.Core.Bool.{Bool, true, false}
 use mathlib.Core.List.{List, []}
 use mathlib.Core.Option.{Option, none, some}
-use Prim.Native.Nat.{ℕ, zero, suc, _+_, _-_, _≤_, _<_}
+use Prim.Native.Nat.{ℕ, zero, suc, _+_, _≤_, _<_}
 use native.Mathlib.Omega.{arith}
 use lib.IntN.{ℤ, pos}
 use Rattle.primitive.specs.declared.flags.Named.{Named}
@@ -17,7 +17,7 @@ use Rattle.meaning.specs.Marks.{propagate}
 use Rattle.meaning.specs.Reads.{evaluate}
 use Rattle.meaning.specs.Engine.{logged, flushOn, flushAt, store, node, owned, newSignal, newComputed, newScope, newEffect, endAt}
 use Rattle.meaning.specs.Words.{Command, makeSignal, makeComputed, makeEffect, makeScope, setTo, addTo, readOf, disposeOf, batchStart, batchEnd, commandOf, nodeOf, ownerOf, formulaOf}
-use Rattle.meaning.specs.Refusals.{total, cellsOf, usedCells, sightOf, refusal}
+use Rattle.meaning.specs.Refusals.{total, sightOf, refusal}
 use Rattle.meaning.specs.Commands.{perform, performAny, answer, command}
 use Rattle.meaning.proofs.Laws.{branch, up-other}
 use Rattle.meaning.proofs.Rings.{Drops, Renews, Runs, weaker-drops, weaker-renews, dispose-ring, settle-ring, evaluate-ring, flush-ring}
@@ -74,6 +74,7 @@ end-keeps s (suc (suc d)) = record { still = refl; gone = λ n e. e }
 pub record Stays (s t : St) : Type 0 where
   pub room : t .room ≡ s .room
   pub more : s .size ≤ t .size
+  pub cells : s .used ≤ t .used
   pub kind : (n : ℕ) → n < s .size → t .kind n ≡ s .kind n
   pub form : (n : ℕ) → n < s .size → t .form n ≡ s .form n
   pub owner : (n : ℕ) → n < s .size → t .owner n ≡ s .owner n
@@ -83,9 +84,11 @@ pub record Stays (s t : St) : Type 0 where
 kept-stays : (s t : St) → Keeps s t → Stays s t
 kept-stays s t k =
     let e : t .size ≡ s .size = ap (λ (g : Given). g .size) (k .still) in
+    let c : t .used ≡ s .used = ap (λ (g : Given). g .used) (k .still) in
     record {
       room = ap (λ (g : Given). g .room) (k .still);
       more = omega arith;
+      cells = omega arith;
       kind = λ n h. ap (λ (g : Given). g .kind n) (k .still);
       form = λ n h. ap (λ (g : Given). g .form n) (k .still);
       owner = λ n h. ap (λ (g : Given). g .owner n) (k .still);
@@ -97,9 +100,12 @@ stays-then : (s t x : St) → Stays s t → Stays t x → Stays s x
 stays-then s t x p q =
     let m = p .more in
     let l = q .more in
+    let a = p .cells in
+    let b = q .cells in
     record {
       room = q .room ∙ p .room;
       more = omega arith;
+      cells = omega arith;
       kind = λ n h. q .kind n (omega arith) ∙ p .kind n h;
       form = λ n h. q .form n (omega arith) ∙ p .form n h;
       owner = λ n h. q .owner n (omega arith) ∙ p .owner n h;
@@ -112,6 +118,7 @@ node-stays : (s : St) (k : Kind) (t : Tree) (o : Option ℕ) (b : Named) (v : Va
 node-stays s k t o b v = record {
   room = refl;
   more = omega arith;
+  cells = omega arith;
   kind = λ n h. up-other (s .kind) (s .size) k n (λ e. omega arith);
   form = λ n h. up-other (s .form) (s .size) t n (λ e. omega arith);
   owner = λ n h. up-other (s .owner) (s .size) o n (λ e. omega arith);
@@ -163,29 +170,8 @@ command-stays well s rows ws = go (refusal well (sightOf s rows) ws)
     go zero = stays-then s (withLog s []) _ (kept-stays s (withLog s []) (record { still = refl; gone = λ n e. e })) (any-stays (withLog s []) (commandOf ws))
     go (suc r) = kept-stays s s (keeps s)
 
--- ---- the cells in use
+-- ---- sums that agree
 pub total-same : (f g : ℕ → ℕ) (n : ℕ) → ((m : ℕ) → m < n → g m ≡ f m) → total g n ≡ total f n
 unfolding total
 total-same f g zero h = refl
 total-same f g (suc n) h = ap₂ (λ (a b : ℕ). a + b) (total-same f g n (λ m l. h m (omega arith))) (h n (omega arith))
-
-total-more : (f : ℕ → ℕ) (n k : ℕ) → total f n ≤ total f (k + n)
-unfolding total
-total-more f n zero = let e : 0 + n ≡ n = omega arith in subst (λ (m : ℕ). total f n ≤ total f m) (sym e) (omega arith)
-total-more f n (suc k) =
-    let a = total-more f n k in
-    let e : suc k + n ≡ suc (k + n) = omega arith in
-    subst (λ (m : ℕ). total f n ≤ total f m) (sym e) (omega arith)
-
-pub cells-stay : (s t : St) → Stays s t → usedCells s ≤ usedCells t
-unfolding usedCells
-cells-stay s t h =
-    let f : ℕ → ℕ = λ n. cellsOf (s .kind n) (s .form n) in
-    let g : ℕ → ℕ = λ n. cellsOf (t .kind n) (t .form n) in
-    let e : total g (s .size) ≡ total f (s .size) = total-same f g (s .size) (λ m l. ap₂ cellsOf (h .kind m l) (h .form m l)) in
-    let m = h .more in
-    let k = t .size - s .size in
-    let p = total-more g (s .size) k in
-    let q : k + s .size ≡ t .size = omega arith in
-    let z : total g (s .size) ≤ total g (t .size) = subst (λ (x : ℕ). total g (s .size) ≤ total g x) q p in
-    omega arith

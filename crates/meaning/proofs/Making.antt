@@ -15,8 +15,8 @@ use Rattle.primitive.specs.declared.values.Value.{Value}
 use Rattle.formula.specs.Trees.{Tree, constant, size, nesting, names}
 use Rattle.formula.specs.Legal.{mostCells, mostNesting}
 use Rattle.meaning.specs.State.{St, Kind, signal, computed, effect, scope, readable, deps, f0, f1, f2, f17, nothing, up}
-use Rattle.meaning.specs.Engine.{tallest, levelOf, node, newSignal, newComputed}
-use Rattle.meaning.specs.Refusals.{total, reserveOf, cellsOf, usedCells, reserve, mostLevel}
+use Rattle.meaning.specs.Engine.{tallest, levelOf, cellsOf, node, newSignal, newComputed}
+use Rattle.meaning.specs.Refusals.{total, reserveOf, reserve, mostLevel}
 use Rattle.meaning.specs.WellFormed.{In, Once, Lists, Depends, Limits, FlagsByKind, readLinks, ComputedFlags, never, EffectFlags, WellFormed}
 use Rattle.meaning.proofs.Laws.{clash, either, none-some, up-same, up-other, up-by}
 use Rattle.meaning.proofs.Kept.{total-same}
@@ -47,7 +47,7 @@ reads-same f g n h dep (l ∷ ls) low =
 -- what rows 5, 6 and 7 of the refusals leave
 pub record Fits (s : St) (k : Kind) (t : Tree) : Type 0 where
   pub room : s .size < s .room .nodes
-  pub cells : usedCells s + cellsOf k t ≤ s .room .cells
+  pub cells : s .used + cellsOf k t ≤ s .room .cells
   pub slots : reserve s + reserveOf k false t none ≤ s .room .slots
   pub known : (m : ℕ) → In m (names t) → (m < s .size) × (readable (s .kind m) ≡ true)
   pub few : size t ≤ mostCells
@@ -161,13 +161,6 @@ module _ (s : St) (w : WellFormed s) (k : Kind) (t : Tree) (b : Named) (v : Valu
   plain-names of-computed (inl e) = let z : _≡_ {A = ℕ} 0 1 = cc in absurd (omega arith)
   plain-names of-computed (inr e) = let z : _≡_ {A = ℕ} 0 1 = cc in absurd (omega arith)
 
-  new-used : usedCells N ≡ usedCells s + cellsOf k t
-  unfolding usedCells total
-  new-used =
-      ap₂ (λ (x y : ℕ). x + y)
-      (total-same (λ m. cellsOf (s .kind m) (s .form m)) (λ m. cellsOf (N .kind m) (N .form m)) (s .size) (λ m h. ap₂ cellsOf (kind-old m h) (old (s .form) t m h)))
-      (ap₂ cellsOf (kind-new (s .size) refl) (form-new (s .size) refl))
-
   reserve-at : (a c : Kind) (g h : Bool) (x y : Tree) (o p : Option ℕ) → a ≡ c → g ≡ h → x ≡ y → o ≡ p → reserveOf a g x o ≡ reserveOf c h y p
   reserve-at a c g h x y o p e f q r = cc
 
@@ -192,7 +185,7 @@ module _ (s : St) (w : WellFormed s) (k : Kind) (t : Tree) (b : Named) (v : Valu
   unfolding readLinks
   no-links m = omega arith
 
-  new-limits : Limits (N .room) (N .size) (usedCells N) (reserve N) (N .kind) (N .form) (N .owner) (N .level) (N .live) (N .dep) (N .sub) (deps N)
+  new-limits : Limits (N .room) (N .size) (N .used) (reserve N) (N .kind) (N .form) (N .owner) (N .level) (N .live) (N .dep) (N .sub) (deps N)
   new-limits =
       let o = w .limits in
       let r = fits .room in
@@ -222,7 +215,7 @@ module _ (s : St) (w : WellFormed s) (k : Kind) (t : Tree) (b : Named) (v : Valu
         level-low = λ m h. split m h (λ z. subst (λ (x : Kind). N .level m ≤ mostLevel x) (sym (kind-new m z)) (subst (λ (x : ℕ). x ≤ mostLevel k) (sym (level-new m z)) (fits .level)))
             (λ z. subst (λ (x : Kind). N .level m ≤ mostLevel x) (sym (kind-old m z)) (subst (λ (x : ℕ). x ≤ mostLevel (s .kind m)) (sym (levels-old m z)) (o .level-low m z)));
         nodes-fit = omega arith;
-        cells-fit = subst (λ (x : ℕ). x ≤ s .room .cells) (sym new-used) (fits .cells);
+        cells-fit = fits .cells;
         reserve-fits = subst (λ (x : ℕ). x ≤ s .room .slots) (sym new-reserve) (fits .slots);
       }
     where

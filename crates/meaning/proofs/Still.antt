@@ -15,13 +15,14 @@ use Rattle.meaning.proofs.Rings.{Drops, Renews}
 pub record Given : Type 0 where
   pub room : Room
   pub size : ℕ
+  pub used : ℕ
   pub kind : ℕ → Kind
   pub form : ℕ → Tree
   pub owner : ℕ → Option ℕ
   pub level : ℕ → ℕ
 
 abbrev pub given : St → Given
-given s = record { room = s .room; size = s .size; kind = s .kind; form = s .form; owner = s .owner; level = s .level }
+given s = record { room = s .room; size = s .size; used = s .used; kind = s .kind; form = s .form; owner = s .owner; level = s .level }
 
 -- and what writes, batches and runs touch
 pub record Fixed : Type 0 where

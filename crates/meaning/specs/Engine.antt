@@ -2,14 +2,14 @@
 use mathlib.Core.Bool.{true, false}
 use mathlib.Core.List.{List, [], _∷_, _++_}
 use mathlib.Core.Option.{Option, none, some}
-use Prim.Native.Nat.{ℕ, zero, suc, max}
+use Prim.Native.Nat.{ℕ, zero, suc, _+_, max}
 use lib.IntN.{pos}
 use Rattle.primitive.specs.declared.flags.Named.{Named}
 use Rattle.primitive.specs.declared.values.Value.{Value}
 use Rattle.primitive.specs.Values.{same}
-use Rattle.formula.specs.Trees.{Tree, constant, names}
+use Rattle.formula.specs.Trees.{Tree, constant, size, names}
 use Rattle.meaning.specs.State.{St, Kind, signal, computed, effect, scope, f0, f1, f2, f6, f17, nothing, raised}
-use Rattle.meaning.specs.Setters.{setKind, setForm, setOwner, setGone, setLevel, setFl, setSto, setPend, setDone, setRest, setSubs, withSize, withQueue, withDepth, withCycle, withLog}
+use Rattle.meaning.specs.Setters.{setKind, setForm, setOwner, setGone, setLevel, setFl, setSto, setPend, setDone, setRest, setSubs, withSize, withUsed, withQueue, withDepth, withCycle, withLog}
 use Rattle.meaning.specs.Links.{isNil, link, purge, rewind}
 use Rattle.meaning.specs.Marks.{propagate}
 use Rattle.meaning.specs.Reads.{Out, check, evaluate}
@@ -75,6 +75,13 @@ levelOf h computed t o = heightOf h t
 levelOf h effect t o = depthUnder h o
 levelOf h scope t o = depthUnder h o
 
+-- ---- the cells that a new node takes
+abbrev pub cellsOf : Kind → Tree → ℕ
+cellsOf signal t = 0
+cellsOf computed t = size t
+cellsOf effect t = size t
+cellsOf scope t = 0
+
 -- ---- a new node has the next number
 abbrev pub bareNode : St → ℕ → St
 bareNode s n = setSubs (setRest (setDone (setGone s n false) n []) n []) n []
@@ -82,7 +89,7 @@ bareNode s n = setSubs (setRest (setDone (setGone s n false) n []) n []) n []
 abbrev pub node : St → Kind → Tree → Option ℕ → Named → Value → St
 node s k t o b v =
     let n = s .size in
-    withSize (setPend (setSto (setFl (setLevel (setOwner (setForm (setKind (bareNode s n) n k) n t) n o) n (levelOf (s .level) k t o)) n b) n v) n v) (suc n)
+    withUsed (withSize (setPend (setSto (setFl (setLevel (setOwner (setForm (setKind (bareNode s n) n k) n t) n o) n (levelOf (s .level) k t o)) n b) n v) n v) (suc n)) (s .used + cellsOf k t)
 
 -- its owner depends on it
 abbrev pub owned : St → ℕ → Option ℕ → St

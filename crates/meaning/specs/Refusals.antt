@@ -6,9 +6,9 @@ use Prim.Native.Nat.{ℕ, zero, suc, _+_, _*_}
 use lib.Dec.{eqb, leb, ltb}
 use lib.IntN.{ℤ, pos, negsuc}
 use lib.ListN.{length}
-use Rattle.formula.specs.Trees.{Tree, constant, size, names}
+use Rattle.formula.specs.Trees.{Tree, constant, names}
 use Rattle.meaning.specs.State.{St, Kind, signal, computed, effect, scope, Room, readable}
-use Rattle.meaning.specs.Engine.{levelOf}
+use Rattle.meaning.specs.Engine.{levelOf, cellsOf}
 use Rattle.meaning.specs.Words.{Command, makeSignal, makeComputed, makeEffect, makeScope, setTo, addTo, readOf, disposeOf, batchStart, batchEnd, commandOf, ownerOf, treeOf, formulaOf}
 
 -- ---- what is counted from the state
@@ -49,16 +49,6 @@ effectOf scope g = 0
 unfoldable pub liveEffects : St → ℕ
 liveEffects s = total (λ n. effectOf (s .kind n) (s .gone n)) (s .size)
 
--- cells are never reused: a gone effect's count too
-abbrev pub cellsOf : Kind → Tree → ℕ
-cellsOf signal t = 0
-cellsOf computed t = size t
-cellsOf effect t = size t
-cellsOf scope t = 0
-
-unfoldable pub usedCells : St → ℕ
-usedCells s = total (λ n. cellsOf (s .kind n) (s .form n)) (s .size)
-
 -- ---- what the refusals see
 pub record Sight : Type 0 where
   pub room : Room
@@ -80,7 +70,7 @@ sightOf s rows = record {
   kind = s .kind;
   gone = s .gone;
   level = s .level;
-  used = usedCells s;
+  used = s .used;
   reserved = reserve s;
   effects = liveEffects s;
   depth = s .depth;

@@ -9,70 +9,73 @@ use Rattle.formula.specs.Trees.{Tree}
 use Rattle.meaning.specs.State.{St, Kind, Row, up}
 
 abbrev pub withSize : St → ℕ → St
-withSize s x = record { room = s .room; size = x; kind = s .kind; form = s .form; owner = s .owner; gone = s .gone; level = s .level; fl = s .fl; sto = s .sto; pend = s .pend; done = s .done; rest = s .rest; subs = s .subs; live = s .live; dep = s .dep; sub = s .sub; ver = s .ver; free = s .free; queue = s .queue; depth = s .depth; cycle = s .cycle; log = s .log; stuck = s .stuck }
+withSize s x = record { room = s .room; size = x; used = s .used; kind = s .kind; form = s .form; owner = s .owner; gone = s .gone; level = s .level; fl = s .fl; sto = s .sto; pend = s .pend; done = s .done; rest = s .rest; subs = s .subs; live = s .live; dep = s .dep; sub = s .sub; ver = s .ver; free = s .free; queue = s .queue; depth = s .depth; cycle = s .cycle; log = s .log; stuck = s .stuck }
+
+abbrev pub withUsed : St → ℕ → St
+withUsed s x = record { room = s .room; size = s .size; used = x; kind = s .kind; form = s .form; owner = s .owner; gone = s .gone; level = s .level; fl = s .fl; sto = s .sto; pend = s .pend; done = s .done; rest = s .rest; subs = s .subs; live = s .live; dep = s .dep; sub = s .sub; ver = s .ver; free = s .free; queue = s .queue; depth = s .depth; cycle = s .cycle; log = s .log; stuck = s .stuck }
 
 abbrev pub withKind : St → (ℕ → Kind) → St
-withKind s x = record { room = s .room; size = s .size; kind = x; form = s .form; owner = s .owner; gone = s .gone; level = s .level; fl = s .fl; sto = s .sto; pend = s .pend; done = s .done; rest = s .rest; subs = s .subs; live = s .live; dep = s .dep; sub = s .sub; ver = s .ver; free = s .free; queue = s .queue; depth = s .depth; cycle = s .cycle; log = s .log; stuck = s .stuck }
+withKind s x = record { room = s .room; size = s .size; used = s .used; kind = x; form = s .form; owner = s .owner; gone = s .gone; level = s .level; fl = s .fl; sto = s .sto; pend = s .pend; done = s .done; rest = s .rest; subs = s .subs; live = s .live; dep = s .dep; sub = s .sub; ver = s .ver; free = s .free; queue = s .queue; depth = s .depth; cycle = s .cycle; log = s .log; stuck = s .stuck }
 
 abbrev pub withForm : St → (ℕ → Tree) → St
-withForm s x = record { room = s .room; size = s .size; kind = s .kind; form = x; owner = s .owner; gone = s .gone; level = s .level; fl = s .fl; sto = s .sto; pend = s .pend; done = s .done; rest = s .rest; subs = s .subs; live = s .live; dep = s .dep; sub = s .sub; ver = s .ver; free = s .free; queue = s .queue; depth = s .depth; cycle = s .cycle; log = s .log; stuck = s .stuck }
+withForm s x = record { room = s .room; size = s .size; used = s .used; kind = s .kind; form = x; owner = s .owner; gone = s .gone; level = s .level; fl = s .fl; sto = s .sto; pend = s .pend; done = s .done; rest = s .rest; subs = s .subs; live = s .live; dep = s .dep; sub = s .sub; ver = s .ver; free = s .free; queue = s .queue; depth = s .depth; cycle = s .cycle; log = s .log; stuck = s .stuck }
 
 abbrev pub withOwner : St → (ℕ → Option ℕ) → St
-withOwner s x = record { room = s .room; size = s .size; kind = s .kind; form = s .form; owner = x; gone = s .gone; level = s .level; fl = s .fl; sto = s .sto; pend = s .pend; done = s .done; rest = s .rest; subs = s .subs; live = s .live; dep = s .dep; sub = s .sub; ver = s .ver; free = s .free; queue = s .queue; depth = s .depth; cycle = s .cycle; log = s .log; stuck = s .stuck }
+withOwner s x = record { room = s .room; size = s .size; used = s .used; kind = s .kind; form = s .form; owner = x; gone = s .gone; level = s .level; fl = s .fl; sto = s .sto; pend = s .pend; done = s .done; rest = s .rest; subs = s .subs; live = s .live; dep = s .dep; sub = s .sub; ver = s .ver; free = s .free; queue = s .queue; depth = s .depth; cycle = s .cycle; log = s .log; stuck = s .stuck }
 
 abbrev pub withGone : St → (ℕ → Bool) → St
-withGone s x = record { room = s .room; size = s .size; kind = s .kind; form = s .form; owner = s .owner; gone = x; level = s .level; fl = s .fl; sto = s .sto; pend = s .pend; done = s .done; rest = s .rest; subs = s .subs; live = s .live; dep = s .dep; sub = s .sub; ver = s .ver; free = s .free; queue = s .queue; depth = s .depth; cycle = s .cycle; log = s .log; stuck = s .stuck }
+withGone s x = record { room = s .room; size = s .size; used = s .used; kind = s .kind; form = s .form; owner = s .owner; gone = x; level = s .level; fl = s .fl; sto = s .sto; pend = s .pend; done = s .done; rest = s .rest; subs = s .subs; live = s .live; dep = s .dep; sub = s .sub; ver = s .ver; free = s .free; queue = s .queue; depth = s .depth; cycle = s .cycle; log = s .log; stuck = s .stuck }
 
 abbrev pub withLevel : St → (ℕ → ℕ) → St
-withLevel s x = record { room = s .room; size = s .size; kind = s .kind; form = s .form; owner = s .owner; gone = s .gone; level = x; fl = s .fl; sto = s .sto; pend = s .pend; done = s .done; rest = s .rest; subs = s .subs; live = s .live; dep = s .dep; sub = s .sub; ver = s .ver; free = s .free; queue = s .queue; depth = s .depth; cycle = s .cycle; log = s .log; stuck = s .stuck }
+withLevel s x = record { room = s .room; size = s .size; used = s .used; kind = s .kind; form = s .form; owner = s .owner; gone = s .gone; level = x; fl = s .fl; sto = s .sto; pend = s .pend; done = s .done; rest = s .rest; subs = s .subs; live = s .live; dep = s .dep; sub = s .sub; ver = s .ver; free = s .free; queue = s .queue; depth = s .depth; cycle = s .cycle; log = s .log; stuck = s .stuck }
 
 abbrev pub withFl : St → (ℕ → Named) → St
-withFl s x = record { room = s .room; size = s .size; kind = s .kind; form = s .form; owner = s .owner; gone = s .gone; level = s .level; fl = x; sto = s .sto; pend = s .pend; done = s .done; rest = s .rest; subs = s .subs; live = s .live; dep = s .dep; sub = s .sub; ver = s .ver; free = s .free; queue = s .queue; depth = s .depth; cycle = s .cycle; log = s .log; stuck = s .stuck }
+withFl s x = record { room = s .room; size = s .size; used = s .used; kind = s .kind; form = s .form; owner = s .owner; gone = s .gone; level = s .level; fl = x; sto = s .sto; pend = s .pend; done = s .done; rest = s .rest; subs = s .subs; live = s .live; dep = s .dep; sub = s .sub; ver = s .ver; free = s .free; queue = s .queue; depth = s .depth; cycle = s .cycle; log = s .log; stuck = s .stuck }
 
 abbrev pub withSto : St → (ℕ → Value) → St
-withSto s x = record { room = s .room; size = s .size; kind = s .kind; form = s .form; owner = s .owner; gone = s .gone; level = s .level; fl = s .fl; sto = x; pend = s .pend; done = s .done; rest = s .rest; subs = s .subs; live = s .live; dep = s .dep; sub = s .sub; ver = s .ver; free = s .free; queue = s .queue; depth = s .depth; cycle = s .cycle; log = s .log; stuck = s .stuck }
+withSto s x = record { room = s .room; size = s .size; used = s .used; kind = s .kind; form = s .form; owner = s .owner; gone = s .gone; level = s .level; fl = s .fl; sto = x; pend = s .pend; done = s .done; rest = s .rest; subs = s .subs; live = s .live; dep = s .dep; sub = s .sub; ver = s .ver; free = s .free; queue = s .queue; depth = s .depth; cycle = s .cycle; log = s .log; stuck = s .stuck }
 
 abbrev pub withPend : St → (ℕ → Value) → St
-withPend s x = record { room = s .room; size = s .size; kind = s .kind; form = s .form; owner = s .owner; gone = s .gone; level = s .level; fl = s .fl; sto = s .sto; pend = x; done = s .done; rest = s .rest; subs = s .subs; live = s .live; dep = s .dep; sub = s .sub; ver = s .ver; free = s .free; queue = s .queue; depth = s .depth; cycle = s .cycle; log = s .log; stuck = s .stuck }
+withPend s x = record { room = s .room; size = s .size; used = s .used; kind = s .kind; form = s .form; owner = s .owner; gone = s .gone; level = s .level; fl = s .fl; sto = s .sto; pend = x; done = s .done; rest = s .rest; subs = s .subs; live = s .live; dep = s .dep; sub = s .sub; ver = s .ver; free = s .free; queue = s .queue; depth = s .depth; cycle = s .cycle; log = s .log; stuck = s .stuck }
 
 abbrev pub withDone : St → (ℕ → List ℕ) → St
-withDone s x = record { room = s .room; size = s .size; kind = s .kind; form = s .form; owner = s .owner; gone = s .gone; level = s .level; fl = s .fl; sto = s .sto; pend = s .pend; done = x; rest = s .rest; subs = s .subs; live = s .live; dep = s .dep; sub = s .sub; ver = s .ver; free = s .free; queue = s .queue; depth = s .depth; cycle = s .cycle; log = s .log; stuck = s .stuck }
+withDone s x = record { room = s .room; size = s .size; used = s .used; kind = s .kind; form = s .form; owner = s .owner; gone = s .gone; level = s .level; fl = s .fl; sto = s .sto; pend = s .pend; done = x; rest = s .rest; subs = s .subs; live = s .live; dep = s .dep; sub = s .sub; ver = s .ver; free = s .free; queue = s .queue; depth = s .depth; cycle = s .cycle; log = s .log; stuck = s .stuck }
 
 abbrev pub withRest : St → (ℕ → List ℕ) → St
-withRest s x = record { room = s .room; size = s .size; kind = s .kind; form = s .form; owner = s .owner; gone = s .gone; level = s .level; fl = s .fl; sto = s .sto; pend = s .pend; done = s .done; rest = x; subs = s .subs; live = s .live; dep = s .dep; sub = s .sub; ver = s .ver; free = s .free; queue = s .queue; depth = s .depth; cycle = s .cycle; log = s .log; stuck = s .stuck }
+withRest s x = record { room = s .room; size = s .size; used = s .used; kind = s .kind; form = s .form; owner = s .owner; gone = s .gone; level = s .level; fl = s .fl; sto = s .sto; pend = s .pend; done = s .done; rest = x; subs = s .subs; live = s .live; dep = s .dep; sub = s .sub; ver = s .ver; free = s .free; queue = s .queue; depth = s .depth; cycle = s .cycle; log = s .log; stuck = s .stuck }
 
 abbrev pub withSubs : St → (ℕ → List ℕ) → St
-withSubs s x = record { room = s .room; size = s .size; kind = s .kind; form = s .form; owner = s .owner; gone = s .gone; level = s .level; fl = s .fl; sto = s .sto; pend = s .pend; done = s .done; rest = s .rest; subs = x; live = s .live; dep = s .dep; sub = s .sub; ver = s .ver; free = s .free; queue = s .queue; depth = s .depth; cycle = s .cycle; log = s .log; stuck = s .stuck }
+withSubs s x = record { room = s .room; size = s .size; used = s .used; kind = s .kind; form = s .form; owner = s .owner; gone = s .gone; level = s .level; fl = s .fl; sto = s .sto; pend = s .pend; done = s .done; rest = s .rest; subs = x; live = s .live; dep = s .dep; sub = s .sub; ver = s .ver; free = s .free; queue = s .queue; depth = s .depth; cycle = s .cycle; log = s .log; stuck = s .stuck }
 
 abbrev pub withLive : St → (ℕ → Bool) → St
-withLive s x = record { room = s .room; size = s .size; kind = s .kind; form = s .form; owner = s .owner; gone = s .gone; level = s .level; fl = s .fl; sto = s .sto; pend = s .pend; done = s .done; rest = s .rest; subs = s .subs; live = x; dep = s .dep; sub = s .sub; ver = s .ver; free = s .free; queue = s .queue; depth = s .depth; cycle = s .cycle; log = s .log; stuck = s .stuck }
+withLive s x = record { room = s .room; size = s .size; used = s .used; kind = s .kind; form = s .form; owner = s .owner; gone = s .gone; level = s .level; fl = s .fl; sto = s .sto; pend = s .pend; done = s .done; rest = s .rest; subs = s .subs; live = x; dep = s .dep; sub = s .sub; ver = s .ver; free = s .free; queue = s .queue; depth = s .depth; cycle = s .cycle; log = s .log; stuck = s .stuck }
 
 abbrev pub withDep : St → (ℕ → ℕ) → St
-withDep s x = record { room = s .room; size = s .size; kind = s .kind; form = s .form; owner = s .owner; gone = s .gone; level = s .level; fl = s .fl; sto = s .sto; pend = s .pend; done = s .done; rest = s .rest; subs = s .subs; live = s .live; dep = x; sub = s .sub; ver = s .ver; free = s .free; queue = s .queue; depth = s .depth; cycle = s .cycle; log = s .log; stuck = s .stuck }
+withDep s x = record { room = s .room; size = s .size; used = s .used; kind = s .kind; form = s .form; owner = s .owner; gone = s .gone; level = s .level; fl = s .fl; sto = s .sto; pend = s .pend; done = s .done; rest = s .rest; subs = s .subs; live = s .live; dep = x; sub = s .sub; ver = s .ver; free = s .free; queue = s .queue; depth = s .depth; cycle = s .cycle; log = s .log; stuck = s .stuck }
 
 abbrev pub withSub : St → (ℕ → ℕ) → St
-withSub s x = record { room = s .room; size = s .size; kind = s .kind; form = s .form; owner = s .owner; gone = s .gone; level = s .level; fl = s .fl; sto = s .sto; pend = s .pend; done = s .done; rest = s .rest; subs = s .subs; live = s .live; dep = s .dep; sub = x; ver = s .ver; free = s .free; queue = s .queue; depth = s .depth; cycle = s .cycle; log = s .log; stuck = s .stuck }
+withSub s x = record { room = s .room; size = s .size; used = s .used; kind = s .kind; form = s .form; owner = s .owner; gone = s .gone; level = s .level; fl = s .fl; sto = s .sto; pend = s .pend; done = s .done; rest = s .rest; subs = s .subs; live = s .live; dep = s .dep; sub = x; ver = s .ver; free = s .free; queue = s .queue; depth = s .depth; cycle = s .cycle; log = s .log; stuck = s .stuck }
 
 abbrev pub withVer : St → (ℕ → ℕ) → St
-withVer s x = record { room = s .room; size = s .size; kind = s .kind; form = s .form; owner = s .owner; gone = s .gone; level = s .level; fl = s .fl; sto = s .sto; pend = s .pend; done = s .done; rest = s .rest; subs = s .subs; live = s .live; dep = s .dep; sub = s .sub; ver = x; free = s .free; queue = s .queue; depth = s .depth; cycle = s .cycle; log = s .log; stuck = s .stuck }
+withVer s x = record { room = s .room; size = s .size; used = s .used; kind = s .kind; form = s .form; owner = s .owner; gone = s .gone; level = s .level; fl = s .fl; sto = s .sto; pend = s .pend; done = s .done; rest = s .rest; subs = s .subs; live = s .live; dep = s .dep; sub = s .sub; ver = x; free = s .free; queue = s .queue; depth = s .depth; cycle = s .cycle; log = s .log; stuck = s .stuck }
 
 abbrev pub withFree : St → List ℕ → St
-withFree s x = record { room = s .room; size = s .size; kind = s .kind; form = s .form; owner = s .owner; gone = s .gone; level = s .level; fl = s .fl; sto = s .sto; pend = s .pend; done = s .done; rest = s .rest; subs = s .subs; live = s .live; dep = s .dep; sub = s .sub; ver = s .ver; free = x; queue = s .queue; depth = s .depth; cycle = s .cycle; log = s .log; stuck = s .stuck }
+withFree s x = record { room = s .room; size = s .size; used = s .used; kind = s .kind; form = s .form; owner = s .owner; gone = s .gone; level = s .level; fl = s .fl; sto = s .sto; pend = s .pend; done = s .done; rest = s .rest; subs = s .subs; live = s .live; dep = s .dep; sub = s .sub; ver = s .ver; free = x; queue = s .queue; depth = s .depth; cycle = s .cycle; log = s .log; stuck = s .stuck }
 
 abbrev pub withQueue : St → List ℕ → St
-withQueue s x = record { room = s .room; size = s .size; kind = s .kind; form = s .form; owner = s .owner; gone = s .gone; level = s .level; fl = s .fl; sto = s .sto; pend = s .pend; done = s .done; rest = s .rest; subs = s .subs; live = s .live; dep = s .dep; sub = s .sub; ver = s .ver; free = s .free; queue = x; depth = s .depth; cycle = s .cycle; log = s .log; stuck = s .stuck }
+withQueue s x = record { room = s .room; size = s .size; used = s .used; kind = s .kind; form = s .form; owner = s .owner; gone = s .gone; level = s .level; fl = s .fl; sto = s .sto; pend = s .pend; done = s .done; rest = s .rest; subs = s .subs; live = s .live; dep = s .dep; sub = s .sub; ver = s .ver; free = s .free; queue = x; depth = s .depth; cycle = s .cycle; log = s .log; stuck = s .stuck }
 
 abbrev pub withDepth : St → ℕ → St
-withDepth s x = record { room = s .room; size = s .size; kind = s .kind; form = s .form; owner = s .owner; gone = s .gone; level = s .level; fl = s .fl; sto = s .sto; pend = s .pend; done = s .done; rest = s .rest; subs = s .subs; live = s .live; dep = s .dep; sub = s .sub; ver = s .ver; free = s .free; queue = s .queue; depth = x; cycle = s .cycle; log = s .log; stuck = s .stuck }
+withDepth s x = record { room = s .room; size = s .size; used = s .used; kind = s .kind; form = s .form; owner = s .owner; gone = s .gone; level = s .level; fl = s .fl; sto = s .sto; pend = s .pend; done = s .done; rest = s .rest; subs = s .subs; live = s .live; dep = s .dep; sub = s .sub; ver = s .ver; free = s .free; queue = s .queue; depth = x; cycle = s .cycle; log = s .log; stuck = s .stuck }
 
 abbrev pub withCycle : St → ℕ → St
-withCycle s x = record { room = s .room; size = s .size; kind = s .kind; form = s .form; owner = s .owner; gone = s .gone; level = s .level; fl = s .fl; sto = s .sto; pend = s .pend; done = s .done; rest = s .rest; subs = s .subs; live = s .live; dep = s .dep; sub = s .sub; ver = s .ver; free = s .free; queue = s .queue; depth = s .depth; cycle = x; log = s .log; stuck = s .stuck }
+withCycle s x = record { room = s .room; size = s .size; used = s .used; kind = s .kind; form = s .form; owner = s .owner; gone = s .gone; level = s .level; fl = s .fl; sto = s .sto; pend = s .pend; done = s .done; rest = s .rest; subs = s .subs; live = s .live; dep = s .dep; sub = s .sub; ver = s .ver; free = s .free; queue = s .queue; depth = s .depth; cycle = x; log = s .log; stuck = s .stuck }
 
 abbrev pub withLog : St → List Row → St
-withLog s x = record { room = s .room; size = s .size; kind = s .kind; form = s .form; owner = s .owner; gone = s .gone; level = s .level; fl = s .fl; sto = s .sto; pend = s .pend; done = s .done; rest = s .rest; subs = s .subs; live = s .live; dep = s .dep; sub = s .sub; ver = s .ver; free = s .free; queue = s .queue; depth = s .depth; cycle = s .cycle; log = x; stuck = s .stuck }
+withLog s x = record { room = s .room; size = s .size; used = s .used; kind = s .kind; form = s .form; owner = s .owner; gone = s .gone; level = s .level; fl = s .fl; sto = s .sto; pend = s .pend; done = s .done; rest = s .rest; subs = s .subs; live = s .live; dep = s .dep; sub = s .sub; ver = s .ver; free = s .free; queue = s .queue; depth = s .depth; cycle = s .cycle; log = x; stuck = s .stuck }
 
 abbrev pub withStuck : St → Bool → St
-withStuck s x = record { room = s .room; size = s .size; kind = s .kind; form = s .form; owner = s .owner; gone = s .gone; level = s .level; fl = s .fl; sto = s .sto; pend = s .pend; done = s .done; rest = s .rest; subs = s .subs; live = s .live; dep = s .dep; sub = s .sub; ver = s .ver; free = s .free; queue = s .queue; depth = s .depth; cycle = s .cycle; log = s .log; stuck = x }
+withStuck s x = record { room = s .room; size = s .size; used = s .used; kind = s .kind; form = s .form; owner = s .owner; gone = s .gone; level = s .level; fl = s .fl; sto = s .sto; pend = s .pend; done = s .done; rest = s .rest; subs = s .subs; live = s .live; dep = s .dep; sub = s .sub; ver = s .ver; free = s .free; queue = s .queue; depth = s .depth; cycle = s .cycle; log = s .log; stuck = x }
 
 abbrev pub setKind : St → ℕ → Kind → St
 setKind s n v = withKind s (up (s .kind) n v)

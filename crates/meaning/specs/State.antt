@@ -94,6 +94,7 @@ pub record Room : Type 0 where
 pub record St : Type 0 where
   pub room : Room
   pub size : ℕ  -- nodes are 0 .. size - 1
+  pub used : ℕ  -- formula cells, never reused
   pub kind : ℕ → Kind
   pub form : ℕ → Tree  -- of a computed or an effect; a constant otherwise
   pub owner : ℕ → Option ℕ
@@ -141,6 +142,7 @@ unfoldable pub empty : Room → St
 empty r = record {
   room = r;
   size = 0;
+  used = 0;
   kind = λ n. scope;
   form = λ n. constant (pos 0);
   owner = λ n. none;

@@ -12,7 +12,7 @@ use Rattle.formula.specs.Trees.{Tree, size, nesting, names}
 use Rattle.formula.specs.Legal.{mostCells, mostNesting}
 use Rattle.meaning.specs.State.{St, Kind, signal, computed, effect, scope, Room, readable, rank, deps, f0, f1, f2, f17, f32, f33, f48, f49}
 use Rattle.meaning.specs.Engine.{levelOf}
-use Rattle.meaning.specs.Refusals.{mostLevel, mostDepth, usedCells, reserve}
+use Rattle.meaning.specs.Refusals.{mostLevel, mostDepth, reserve}
 
 -- n stands in the list
 abbrev pub In : ℕ → List ℕ → Type 0
@@ -106,6 +106,6 @@ pub record Queue (count : ℕ) (kind : ℕ → Kind) (gone : ℕ → Bool) (fl :
 pub record WellFormed (s : St) : Type 0 where
   pub lists : Lists (s .room .slots) (s .size) (s .free) (s .live) (s .dep) (s .sub) (deps s) (s .rest) (s .subs)
   pub depends : Depends (s .size) (s .kind) (s .owner) (s .gone) (s .live) (s .dep) (s .sub) (deps s) (s .subs)
-  pub limits : Limits (s .room) (s .size) (usedCells s) (reserve s) (s .kind) (s .form) (s .owner) (s .level) (s .live) (s .dep) (s .sub) (deps s)
+  pub limits : Limits (s .room) (s .size) (s .used) (reserve s) (s .kind) (s .form) (s .owner) (s .level) (s .live) (s .dep) (s .sub) (deps s)
   pub by-kind : FlagsByKind (s .size) (s .kind) (s .gone) (s .fl) (s .queue) (s .dep) (deps s) (s .subs)
   pub queued : Queue (s .size) (s .kind) (s .gone) (s .fl) (s .queue) (s .depth)
