@@ -15,3 +15,6 @@ pub mod Freed
 pub mod Batches
 pub mod Making
 pub mod Accepted
+pub mod Members
+pub mod Inside
+pub mod Dropping

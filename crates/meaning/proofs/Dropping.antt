@@ -1,0 +1,696 @@
+-- The first ring inside an operation: unlink, unwatched, dispose and purge keep well-formedness, are not stuck, and touch only what lies under them. Assumes nothing.
+use mathlib.Core.Path.{_≡_, refl, sym, ap, ap₂, _∙_, subst, fun-ext}
+use mathlib.Core.Logic.{_⊎_, inl, inr}
+use mathlib.Core.Bool.{Bool, true, false}
+use mathlib.Core.List.{List, [], _∷_, _++_, append-nil}
+use mathlib.Core.Option.{Option, none, some}
+use Prim.Native.Nat.{ℕ, zero, suc, _+_, _*_, _≤_, _<_}
+use native.Mathlib.Omega.{arith}
+use lib.Dec.{eqb}
+use lib.ListN.{length}
+use borrow.Author.Tests.{eqb-true, eqb-false}
+use Rattle.primitive.specs.declared.flags.Named.{Named}
+use Rattle.formula.specs.Trees.{Tree, names}
+use Rattle.meaning.specs.State.{St, Kind, signal, computed, effect, scope, Room, readable, deps, f0, f1, f17, up}
+use Rattle.meaning.specs.Setters.{setFl, setGone}
+use Rattle.meaning.specs.Links.{isNil, headOf, remove, each, cut, rewind, purgeW, lastLink, disposeW, unwatchedW, unlinkN, purge, dispose}
+use Rattle.meaning.specs.Refusals.{ownedLink, reserveOf}
+use Rattle.meaning.specs.WellFormed.{In, Once, Lists, readLinks, ComputedFlags, never, clean, stale, maybe, dirty, EffectFlags, watching, pushed, pending, dirty as soiled}
+use Rattle.meaning.proofs.Laws.{clash, false≢true, either, none-some, branch, up-same, up-other, up-by, in-left, in-right}
+use Rattle.meaning.proofs.Members.{remove-in, in-remove, remove-absent, remove-head, remove-once, remove-append, none-nil, nil-none, isNil-true, isNil-false, append-is-nil, once-right, once-apart, most-below, total-least, reads-remove, reads-few}
+use Rattle.meaning.proofs.Still.{Given, given}
+use Rattle.meaning.proofs.Inside.{Set, nobody, also, Static, Goes, AtRest, Rests, Slots, Inside, widen, let-out, at-same, own-still, read-moves, moves-read, Under, under-same, under-then, goes-under, never-back, owner-owns}
+
+-- ---- a link is cut
+module _ (g : Given) (X : Set) (s : St) (l : ℕ) (i : Inside g X s) (lv : s .live l ≡ true) where
+  abbrev o : Slots g s
+  o = i .lists
+
+  abbrev d : ℕ
+  d = s .dep l
+
+  abbrev u : ℕ
+  u = s .sub l
+
+  cut-deps : (v : ℕ) → deps (cut s l) v ≡ remove l (deps s v)
+  unfolding cut
+  cut-deps v =
+      either (eqb v (s .sub l))
+      (λ e. let q = eqb-true v (s .sub l) e in
+      subst (λ (z : ℕ). up (s .done) (s .sub l) (remove l (s .done (s .sub l))) z ++ up (s .rest) (s .sub l) (remove l (s .rest (s .sub l))) z ≡ remove l (s .done z ++ s .rest z)) (sym q)
+      (ap₂ (λ (x y : List ℕ). x ++ y) (up-same (s .done) (s .sub l) (remove l (s .done (s .sub l)))) (up-same (s .rest) (s .sub l) (remove l (s .rest (s .sub l))))
+      ∙ remove-append l (s .done (s .sub l)) (s .rest (s .sub l))))
+      (λ e. let q = eqb-false v (s .sub l) e in
+      ap₂ (λ (x y : List ℕ). x ++ y) (up-other (s .done) (s .sub l) (remove l (s .done (s .sub l))) v q) (up-other (s .rest) (s .sub l) (remove l (s .rest (s .sub l))) v q)
+      ∙ sym (remove-absent l (deps s v) (λ j. q (sym (o .deps-live l v j .1)))))
+
+  cut-subs : (m : ℕ) → cut s l .subs m ≡ remove l (s .subs m)
+  unfolding cut
+  cut-subs m =
+      up-by (s .subs) (s .dep l) (remove l (s .subs (s .dep l))) (λ (x : List ℕ). x ≡ remove l (s .subs m)) m (λ q. ap (λ (z : ℕ). remove l (s .subs z)) (sym q))
+      (λ q. sym (remove-absent l (s .subs m) (λ j. q (sym (o .subs-live l m j .1)))))
+
+  still-live : (k : ℕ) → up (s .live) l false k ≡ true → (k ≡ l → ⊥) × (s .live k ≡ true)
+  still-live k = up-by (s .live) l false (λ (b : Bool). b ≡ true → (k ≡ l → ⊥) × (s .live k ≡ true)) k (λ q e. false≢true e) (λ q e. (q, e))
+
+  kept-live : (k : ℕ) → (k ≡ l → ⊥) → s .live k ≡ true → up (s .live) l false k ≡ true
+  kept-live k q e = up-other (s .live) l false k q ∙ e
+
+  cut-slots : Slots g (cut s l)
+  unfolding cut
+  cut-slots = record {
+    free-not-live = λ k. freed k;
+    free-or-live = λ k h. up-by (s .live) l false (λ (b : Bool). b ≡ false → In k (l ∷ s .free)) k (λ q e. inl q) (λ q e. inr (o .free-or-live k h e));
+    free-once = (λ j. clash lv (o .free-not-live l j .0), o .free-once);
+    live-slot = λ k e. o .live-slot k (still-live k e .1);
+    live-in-subs = λ k e. let x = still-live k e in subst (In k) (sym (cut-subs (s .dep k))) (in-remove k l (s .subs (s .dep k)) (o .live-in-subs k (x .1)) (x .0));
+    subs-live = λ k m j. let x = remove-in k l (s .subs m) (subst (In k) (cut-subs m) j) in let y = o .subs-live k m (x .0) in (kept-live k (x .1) (y .0), y .1);
+    subs-once = λ m. subst Once (sym (cut-subs m)) (remove-once l (s .subs m) (o .subs-once m));
+    live-in-deps = λ k e. let x = still-live k e in subst (In k) (sym (cut-deps (s .sub k))) (in-remove k l (deps s (s .sub k)) (o .live-in-deps k (x .1)) (x .0));
+    deps-live = λ k v j. let x = remove-in k l (deps s v) (subst (In k) (cut-deps v) j) in let y = o .deps-live k v (x .0) in (kept-live k (x .1) (y .0), y .1);
+    deps-once = λ v. subst Once (sym (cut-deps v)) (remove-once l (deps s v) (o .deps-once v));
+    tail-last = λ v. refl;
+    inside = λ k e. o .inside k (still-live k e .1);
+  }
+    where
+      freed : (k : ℕ) → In k (l ∷ s .free) → (up (s .live) l false k ≡ false) × (k < g .room .slots)
+      freed k (inl q) = (up-by (s .live) l false (λ (b : Bool). b ≡ false) k (λ e. refl) (λ e. absurd (e q)), subst (λ (z : ℕ). z < g .room .slots) (sym q) (o .live-slot l lv))
+      freed k (inr j) = let x = o .free-not-live k j in (up-by (s .live) l false (λ (b : Bool). b ≡ false) k (λ e. refl) (λ e. x .0), x .1)
+
+  -- its subscriber is under way, its dependency is taken in
+  pub cut-inside : X (s .sub l) → Inside g (also X (s .dep l)) (cut s l)
+  unfolding cut
+  cut-inside xu = record {
+    same = i .same;
+    lists = cut-slots;
+    goes = λ k e. i .goes k (still-live k e .1);
+    gone-kind = i .gone-kind;
+    fits = i .fits;
+    no-wake = i .no-wake;
+    once = i .once;
+    effects = i .effects;
+    rests = λ n h f.
+        let a : n ≡ s .sub l → ⊥ = λ q. f (inl (subst X (sym q) xu)) in
+        let b : n ≡ s .dep l → ⊥ = λ q. f (inr q) in
+        at-same g (s .queue) (s .dep) (s .sub) n _ _ _ _ _ _ _ _ _ _ refl refl
+        (up-other (s .done) (s .sub l) (remove l (s .done (s .sub l))) n a) (up-other (s .rest) (s .sub l) (remove l (s .rest (s .sub l))) n a)
+        (up-other (s .subs) (s .dep l) (remove l (s .subs (s .dep l))) n b) (i .rests n h (λ x. f (inl x)));
+  }
+
+-- ---- nodes under way
+module _ (g : Given) (X : Set) (s : St) (n : ℕ) (i : Inside g X s) (xn : X n) where
+  off : (m : ℕ) → (X m → ⊥) → m ≡ n → ⊥
+  off m f q = f (subst X (sym q) xn)
+
+  pub flags-inside : (f : Named) → (f .pending ≡ true → f .watching ≡ false) → Inside g X (setFl s n f)
+  flags-inside f h = record {
+    same = i .same;
+    lists = i .lists;
+    goes = i .goes;
+    gone-kind = i .gone-kind;
+    fits = i .fits;
+    no-wake = λ m l. up-by (s .fl) n f (λ (x : Named). x .pending ≡ true → x .watching ≡ false) m (λ q. h) (λ q. i .no-wake m l);
+    once = i .once;
+    effects = i .effects;
+    rests = λ m l x. at-same g (s .queue) (s .dep) (s .sub) m _ _ _ _ _ _ _ _ _ _ (up-other (s .fl) n f m (off m x)) refl refl refl refl (i .rests m l x);
+  }
+
+  rewind-deps : (v : ℕ) → deps (rewind s n) v ≡ deps s v
+  rewind-deps v =
+      either (eqb v n)
+      (λ e. subst (λ (z : ℕ). up (s .done) n [] z ++ up (s .rest) n (s .done n ++ s .rest n) z ≡ s .done z ++ s .rest z) (sym (eqb-true v n e))
+      (ap₂ (λ (x y : List ℕ). x ++ y) (up-same (s .done) n []) (up-same (s .rest) n (s .done n ++ s .rest n))))
+      (λ e. let q = eqb-false v n e in ap₂ (λ (x y : List ℕ). x ++ y) (up-other (s .done) n [] v q) (up-other (s .rest) n (s .done n ++ s .rest n) v q))
+
+  pub rewind-inside : Inside g X (rewind s n)
+  rewind-inside = record {
+    same = i .same;
+    lists = subst (λ (f : ℕ → List ℕ). Lists (g .room .slots) (g .size) (s .free) (s .live) (s .dep) (s .sub) f (λ v. []) (s .subs)) (sym (fun-ext rewind-deps)) (i .lists);
+    goes = i .goes;
+    gone-kind = i .gone-kind;
+    fits = i .fits;
+    no-wake = i .no-wake;
+    once = i .once;
+    effects = i .effects;
+    rests = λ m l x. at-same g (s .queue) (s .dep) (s .sub) m _ _ _ _ _ _ _ _ _ _ refl refl (up-other (s .done) n [] m (off m x)) (up-other (s .rest) n (s .done n ++ s .rest n) m (off m x)) refl (i .rests m l x);
+  }
+
+  less-reserved : (m : ℕ) → reserveOf (g .kind m) (up (s .gone) n true m) (g .form m) (g .owner m) ≤ reserveOf (g .kind m) (s .gone m) (g .form m) (g .owner m)
+  less-reserved m = up-by (s .gone) n true (λ (b : Bool). reserveOf (g .kind m) b (g .form m) (g .owner m) ≤ reserveOf (g .kind m) (s .gone m) (g .form m) (g .owner m)) m
+    (λ q. least (g .kind m) (s .gone m) (g .form m) (g .owner m)) (λ q. omega arith)
+    where
+      least : (k : Kind) (b : Bool) (t : Tree) (p : Option ℕ) → reserveOf k true t p ≤ reserveOf k b t p
+      least signal b t p = omega arith
+      least computed b t p = omega arith
+      least effect true t p = omega arith
+      least effect false t p = omega arith
+      least scope true t p = omega arith
+      least scope false t p = omega arith
+
+  pub gone-inside : readable (g .kind n) ≡ false → Inside g X (setGone s n true)
+  gone-inside r = record {
+    same = i .same;
+    lists = i .lists;
+    goes = i .goes;
+    gone-kind = λ m l q. up-by (s .gone) n true (λ (b : Bool). b ≡ false) m (λ e. clash q (ap (λ (z : ℕ). readable (g .kind z)) e ∙ r)) (λ e. i .gone-kind m l q);
+    fits =
+        let a = total-least (λ m. reserveOf (g .kind m) (up (s .gone) n true m) (g .form m) (g .owner m)) (λ m. reserveOf (g .kind m) (s .gone m) (g .form m) (g .owner m)) (g .size) (λ m h. less-reserved m) in
+        let b = i .fits in
+        omega arith;
+    no-wake = i .no-wake;
+    once = i .once;
+    effects = i .effects;
+    rests = λ m l x. at-same g (s .queue) (s .dep) (s .sub) m _ _ _ _ _ _ _ _ _ _ refl (up-other (s .gone) n true m (off m x)) refl refl refl (i .rests m l x);
+  }
+
+-- ---- what the ring leaves alone: everything but N, and the lists of u
+pub record Dropped (N : Set) (u : ℕ) (s t : St) : Type 0 where
+  pub dep : t .dep ≡ s .dep
+  pub sub : t .sub ≡ s .sub
+  pub lists : (m : ℕ) → (N m → ⊥) → (m ≡ u → ⊥) → (t .done m ≡ s .done m) × (t .rest m ≡ s .rest m)
+  pub flags : (m : ℕ) → (N m → ⊥) → (t .fl m ≡ s .fl m) × (t .gone m ≡ s .gone m)
+  pub fate : (m : ℕ) → (t .fl m ≡ s .fl m) ⊎ (t .subs m ≡ [])
+  pub subs : (m : ℕ) → (N m → ⊥) → t .subs m ≡ s .subs m
+  pub fewer : (l m : ℕ) → In l (t .subs m) → In l (s .subs m)
+  pub free : length (s .free) ≤ length (t .free)
+  pub stuck : t .stuck ≡ s .stuck
+
+dropped-same : (N : Set) (u : ℕ) (s : St) → Dropped N u s s
+dropped-same N u s = record {
+  dep = refl;
+  sub = refl;
+  lists = λ m a b. (refl, refl);
+  flags = λ m a. (refl, refl);
+  fate = λ m. inl refl;
+  subs = λ m a. refl;
+  fewer = λ l m j. j;
+  free = omega arith;
+  stuck = refl;
+}
+
+dropped-wider : (N M : Set) (u v : ℕ) (s t : St) → ((m : ℕ) → N m → M m) → ((M u → ⊥) → u ≡ v) → Dropped N u s t → Dropped M v s t
+dropped-wider N M u v s t h e p = record {
+  dep = p .dep;
+  sub = p .sub;
+  lists = λ m a b. p .lists m (λ x. a (h m x)) (λ q. b (q ∙ e (λ x. a (subst M (sym q) x))));
+  flags = λ m a. p .flags m (λ x. a (h m x));
+  fate = p .fate;
+  subs = λ m a. p .subs m (λ x. a (h m x));
+  fewer = p .fewer;
+  free = p .free;
+  stuck = p .stuck;
+}
+
+dropped-then : (N : Set) (u : ℕ) (s t x : St) → Dropped N u s t → Dropped N u t x → Dropped N u s x
+dropped-then N u s t x p q =
+    let a = p .free in
+    let b = q .free in
+    record {
+      dep = q .dep ∙ p .dep;
+      sub = q .sub ∙ p .sub;
+      lists = λ m f h. (q .lists m f h .0 ∙ p .lists m f h .0, q .lists m f h .1 ∙ p .lists m f h .1);
+      flags = λ m f. (q .flags m f .0 ∙ p .flags m f .0, q .flags m f .1 ∙ p .flags m f .1);
+      fate = λ m. go m (p .fate m) (q .fate m);
+      subs = λ m f. q .subs m f ∙ p .subs m f;
+      fewer = λ l m j. p .fewer l m (q .fewer l m j);
+      free = omega arith;
+      stuck = q .stuck ∙ p .stuck;
+    }
+  where
+    go : (m : ℕ) → (t .fl m ≡ s .fl m) ⊎ (t .subs m ≡ []) → (x .fl m ≡ t .fl m) ⊎ (x .subs m ≡ []) → (x .fl m ≡ s .fl m) ⊎ (x .subs m ≡ [])
+    go m a (inr e) = inr e
+    go m (inl c) (inl e) = inl (e ∙ c)
+    go m (inr c) (inl e) = inr (none-nil (x .subs m) (λ l j. nil-none (t .subs m) l c (q .fewer l m j)))
+
+-- a node of N without subscribers changes flags, mark and lists
+dropped-reset : (N : Set) (u n : ℕ) (s : St) (f : Named) (b : ℕ → Bool) → N n → s .subs n ≡ [] → ((m : ℕ) → (m ≡ n → ⊥) → b m ≡ s .gone m)
+    → (t : St) → t .dep ≡ s .dep → t .sub ≡ s .sub → t .subs ≡ s .subs → t .free ≡ s .free → t .stuck ≡ s .stuck → t .fl ≡ up (s .fl) n f → t .gone ≡ b
+    → t .done ≡ up (s .done) n [] → t .rest ≡ up (s .rest) n (s .done n ++ s .rest n) → Dropped N u s t
+dropped-reset N u n s f b nn none-here same t e₁ e₂ e₃ e₄ e₅ e₆ e₇ e₈ e₉ =
+    let z = ap length e₄ in
+    record {
+      dep = e₁;
+      sub = e₂;
+      lists = λ m a c. (ap (λ (x : ℕ → List ℕ). x m) e₈ ∙ up-other (s .done) n [] m (away m a), ap (λ (x : ℕ → List ℕ). x m) e₉ ∙ up-other (s .rest) n (s .done n ++ s .rest n) m (away m a));
+      flags = λ m a. (ap (λ (x : ℕ → Named). x m) e₆ ∙ up-other (s .fl) n f m (away m a), ap (λ (x : ℕ → Bool). x m) e₇ ∙ same m (away m a));
+      fate = λ m. either (eqb m n) (λ e. inr (ap (λ (x : ℕ → List ℕ). x m) e₃ ∙ ap (s .subs) (eqb-true m n e) ∙ none-here)) (λ e. inl (ap (λ (x : ℕ → Named). x m) e₆ ∙ up-other (s .fl) n f m (eqb-false m n e)));
+      subs = λ m a. ap (λ (x : ℕ → List ℕ). x m) e₃;
+      fewer = λ l m j. subst (λ (x : ℕ → List ℕ). In l (x m)) e₃ j;
+      free = omega arith;
+      stuck = e₅;
+    }
+  where
+    away : (m : ℕ) → (N m → ⊥) → m ≡ n → ⊥
+    away m a q = a (subst N (sym q) nn)
+
+abbrev headOr : List ℕ → ℕ
+headOr [] = 0
+headOr (x ∷ xs) = x
+
+abbrev pub aComputed : Kind → Bool
+aComputed signal = false
+aComputed computed = true
+aComputed effect = false
+aComputed scope = false
+
+-- ---- a gone node without links
+pub rests-gone : (g : Given) (queue : List ℕ) (dep sub : ℕ → ℕ) (n : ℕ) (f : Named) (b : Bool) (done rest subs : List ℕ)
+    → readable (g .kind n) ≡ false → f ≡ f0 → b ≡ true → done ≡ [] → rest ≡ [] → subs ≡ [] → AtRest g queue dep sub n f b done rest subs
+unfolding readLinks
+rests-gone g queue dep sub n f b done rest subs r e₁ e₂ e₃ e₄ e₅ = record {
+  tail = e₄;
+  owned = λ o a q. clash e₂ a;
+  unowned = λ a q. e₅;
+  bare = λ a. (e₃, e₅);
+  few = subst (λ (x : List ℕ). length (readLinks (g .kind) dep x) ≤ length (names (g .form n))) (sym e₃) (omega arith);
+  of-signal = λ k. clash (ap readable k) r;
+  of-computed = λ k. clash (ap readable k) r;
+  of-effect = λ k a. clash e₂ a;
+  of-scope = λ k. e₁;
+  of-gone = λ k a. inl e₁;
+  queued = λ j a. e₁;
+}
+
+module _ (g : Given) (st : Static g) where
+  abbrev Strict : ℕ → Set
+  Strict u m = Under g u m × (m ≡ u → ⊥)
+
+  pub record Unlinked (X : Set) (s : St) (l : ℕ) (t : St) : Type 0 where
+    pub inside : Inside g X t
+    pub dropped : Dropped (Under g (s .dep l)) (s .sub l) s t
+    pub done : t .done (s .sub l) ≡ remove l (s .done (s .sub l))
+    pub rest : t .rest (s .sub l) ≡ remove l (s .rest (s .sub l))
+
+  pub record Purged (X : Set) (s : St) (u : ℕ) (t : St) : Type 0 where
+    pub inside : Inside g X t
+    pub dropped : Dropped (Strict u) u s t
+    pub done : t .done u ≡ s .done u
+    pub rest : t .rest u ≡ []
+
+  -- ul frees slots for k links at least
+  abbrev Unlinks : ℕ → (St → ℕ → St) → Type 1
+  Unlinks k ul = (X : Set) (s : St) (l : ℕ) → Inside g X s → s .live l ≡ true → X (s .sub l) → ((m : ℕ) → Under g (s .dep l) m → X m → ⊥)
+      → g .room .slots ≤ k + length (s .free) → Unlinked X s l (ul s l)
+
+  module _ (k : ℕ) (ul : St → ℕ → St) (uls : Unlinks k ul) where
+    purge-all : (X : Set) (u : ℕ) → X u → ((m : ℕ) → Strict u m → X m → ⊥) → (ls : List ℕ) (s : St) → Inside g X s → s .rest u ≡ ls → g .room .slots ≤ k + length (s .free) → Purged X s u (each ul s ls)
+    unfolding each
+    purge-all X u xu apart [] s i e b = record { inside = i; dropped = dropped-same (Strict u) u s; done = refl; rest = e }
+    purge-all X u xu apart (l ∷ ls) s i e b =
+        let in-deps : In l (deps s u) = in-right l (s .done u) (s .rest u) (subst (In l) (sym e) (inl refl)) in
+        let lu = i .lists .deps-live l u in-deps in
+        let su : s .sub l ≡ u = lu .1 in
+        let dl = i .lists .inside l (lu .0) .0 in
+        let go = subst (λ (z : ℕ). Goes g (s .dep l) z) su (i .goes l (lu .0)) in
+        let below : (m : ℕ) → Under g (s .dep l) m → Strict u m = λ m p. (under-then g st u (s .dep l) m (goes-under g st (s .dep l) u dl go) p, λ q. never-back g st (s .dep l) u dl go (subst (Under g (s .dep l)) q p)) in
+        let r = uls X s l i (lu .0) (subst X (sym su) xu) (λ m p. apart m (below m p)) b in
+        let t = ul s l in
+        let one : Once (s .done u ++ s .rest u) = i .lists .deps-once u in
+        let ones : Once (l ∷ ls) = subst Once e (once-right (s .done u) (s .rest u) one) in
+        let rest-now : t .rest u ≡ ls = subst (λ (z : ℕ). t .rest z ≡ remove l (s .rest z)) su (r .rest) ∙ ap (remove l) e ∙ remove-head l ls (ones .0) in
+        let done-now : t .done u ≡ s .done u =
+        subst (λ (z : ℕ). t .done z ≡ remove l (s .done z)) su (r .done)
+        ∙ remove-absent l (s .done u) (λ j. once-apart (s .done u) (s .rest u) one l j (subst (In l) (sym e) (inl refl))) in
+        let fr = r .dropped .free in
+        let n = purge-all X u xu apart ls t (r .inside) rest-now (omega arith) in
+        record {
+          inside = n .inside;
+          dropped = dropped-then (Strict u) u s t _ (dropped-wider (Under g (s .dep l)) (Strict u) (s .sub l) u s t below (λ x. su) (r .dropped)) (n .dropped);
+          done = n .done ∙ done-now;
+          rest = n .rest;
+        }
+
+    -- x has no subscriber: it goes with all it owns
+    dispose-bare : (X : Set) (s : St) (x v : ℕ) → Inside g (also X x) s → x < g .size → readable (g .kind x) ≡ false → s .subs x ≡ [] → ((m : ℕ) → Under g x m → X m → ⊥)
+        → g .room .slots ≤ k + length (s .free) → Inside g X (disposeW ul s x) × Dropped (Under g x) v s (disposeW ul s x)
+    unfolding disposeW lastLink
+    dispose-bare X s x v i h r e apart b =
+        let a = setGone (setFl (rewind s x) x f0) x true in
+        let ia : Inside g (also X x) a = gone-inside g (also X x) (setFl (rewind s x) x f0) x (flags-inside g (also X x) (rewind s x) x (rewind-inside g (also X x) s x i (inr refl)) (inr refl) f0 (λ q. refl)) (inr refl) r in
+        let p = purge-all (also X x) x (inr refl) (away) (a .rest x) a ia refl b in
+        let t = purgeW ul a x in
+        let d = p .dropped in
+        let outside : Strict x x → ⊥ = λ z. z .1 refl in
+        let bare : t .subs x ≡ [] = d .subs x outside ∙ e in
+        let flag : t .fl x ≡ f0 = d .flags x outside .0 ∙ up-same (s .fl) x f0 in
+        let gone : t .gone x ≡ true = d .flags x outside .1 ∙ up-same (s .gone) x true in
+        let done : t .done x ≡ [] = p .done ∙ up-same (s .done) x [] in
+        let it : Inside g X t = let-out g X t x (p .inside) (rests-gone g (t .queue) (t .dep) (t .sub) x (t .fl x) (t .gone x) (t .done x) (t .rest x) (t .subs x) r flag gone done (p .rest) bare) in
+        let first : Dropped (Under g x) v s a = dropped-reset (Under g x) v x s f0 (up (s .gone) x true) (under-same g st x) e (λ m q. up-other (s .gone) x true m q) a refl refl refl refl refl refl refl refl refl in
+        let then : Dropped (Under g x) v a t = dropped-wider (Strict x) (Under g x) x v a t (λ m z. z .0) (λ z. absurd (z (under-same g st x))) d in
+        subst (λ (q : List ℕ). Inside g X (lastLink ul t (headOf q)) × Dropped (Under g x) v s (lastLink ul t (headOf q))) (sym bare) (it, dropped-then (Under g x) v s a t first then)
+      where
+        away : (m : ℕ) → Strict x m → also X x m → ⊥
+        away m p (inl q) = apart m (p .0) q
+        away m p (inr q) = p .1 q
+
+    signal-bare : (s : St) (i : Slots g s) → ((l : ℕ) → s .live l ≡ true → Goes g (s .dep l) (s .sub l)) → (n : ℕ) → g .kind n ≡ signal → deps s n ≡ []
+    signal-bare s i goes n e = none-nil (deps s n) (λ l j. let x = i .deps-live l n j in goes l (x .0) .of-signal (ap (g .kind) (x .1) ∙ e))
+
+    -- d has lost its last subscriber; before, it was at rest, with flags f, and had one
+    unwatched-inside : (X : Set) (s : St) (d v l : ℕ) (before : List ℕ) → Inside g (also X d) s → d < g .size → s .subs d ≡ [] → In l before
+        → AtRest g (s .queue) (s .dep) (s .sub) d (s .fl d) (s .gone d) (s .done d) (s .rest d) before
+        → ((m : ℕ) → Under g d m → X m → ⊥) → g .room .slots ≤ k + length (s .free) → Inside g X (unwatchedW ul s d) × Dropped (Under g d) v s (unwatchedW ul s d)
+    unfolding unwatchedW readLinks
+    unwatched-inside X s d v l before i h e has r apart b =
+        branch (λ (x : St). Inside g X x × Dropped (Under g d) v s x) (s .fl d .mutable)
+        (λ m. let rd = moves-read g (s .queue) (s .dep) (s .sub) d _ _ _ _ _ r m in
+        branch (λ (x : St). Inside g X x × Dropped (Under g d) v s x) (isNil (s .done d))
+        (λ z. (let-out g X s d i (stays rd), dropped-same (Under g d) v s))
+        (λ z. falls rd (isNil-false (s .done d) z)))
+        (λ m. dispose-bare X s d v i h (owns m) e apart b)
+      where
+        computed-stays : ComputedFlags (s .fl d) (s .done d) before → ComputedFlags (s .fl d) (s .done d) (s .subs d)
+        computed-stays (never x y z) = absurd (nil-none before l z has)
+        computed-stays (clean x) = clean x
+        computed-stays (stale x y) = stale x y
+        computed-stays (maybe x y) = maybe x y
+        computed-stays (dirty x y) = dirty x y
+
+        stays : readable (g .kind d) ≡ true → Rests g s d
+        stays rd = record {
+          tail = r .tail;
+          owned = λ o a q. none-some (sym (st .owner-kind d h rd) ∙ q);
+          unowned = λ a q. e;
+          bare = λ a. clash a (i .gone-kind d h rd);
+          few = r .few;
+          of-signal = r .of-signal;
+          of-computed = λ q. computed-stays (r .of-computed q);
+          of-effect = λ q a. clash rd (ap readable q);
+          of-scope = r .of-scope;
+          of-gone = r .of-gone;
+          queued = r .queued;
+        }
+
+        owns : s .fl d .mutable ≡ false → readable (g .kind d) ≡ false
+        owns m = either (readable (g .kind d)) (λ q. clash (read-moves g (s .queue) (s .dep) (s .sub) d _ _ _ _ _ r l has q) m) (λ q. q)
+
+        is-computed : readable (g .kind d) ≡ true → (s .done d ≡ [] → ⊥) → g .kind d ≡ computed
+        is-computed rd ne = go (g .kind d) refl
+          where
+            go : (x : Kind) → g .kind d ≡ x → g .kind d ≡ computed
+            go signal q = absurd (ne (append-is-nil (s .done d) (s .rest d) (signal-bare s (i .lists) (i .goes) d q) .0))
+            go computed q = q
+            go effect q = clash rd (ap readable q)
+            go scope q = clash rd (ap readable q)
+
+        away : (m : ℕ) → Strict d m → also X d m → ⊥
+        away m p (inl q) = apart m (p .0) q
+        away m p (inr q) = p .1 q
+
+        falls : readable (g .kind d) ≡ true → (s .done d ≡ [] → ⊥) → Inside g X (purgeW ul (setFl (rewind s d) d f17) d) × Dropped (Under g d) v s (purgeW ul (setFl (rewind s d) d f17) d)
+        falls rd ne =
+            let a = setFl (rewind s d) d f17 in
+            let ia : Inside g (also X d) a = flags-inside g (also X d) (rewind s d) d (rewind-inside g (also X d) s d i (inr refl)) (inr refl) f17 (λ q. refl) in
+            let p = purge-all (also X d) d (inr refl) away (a .rest d) a ia refl b in
+            let t = purgeW ul a d in
+            let dr = p .dropped in
+            let outside : Strict d d → ⊥ = λ z. z .1 refl in
+            let done : t .done d ≡ [] = p .done ∙ up-same (s .done) d [] in
+            let flag : t .fl d ≡ f17 = dr .flags d outside .0 ∙ up-same (s .fl) d f17 in
+            let kd = is-computed rd ne in
+            let rt : Rests g t d = record {
+              tail = p .rest;
+              owned = λ o x q. none-some (sym (st .owner-kind d h rd) ∙ q);
+              unowned = λ x q. clash rd x;
+              bare = λ x. clash x (p .inside .gone-kind d h rd);
+              few = subst (λ (z : List ℕ). length (readLinks (g .kind) (t .dep) z) ≤ length (names (g .form d))) (sym done) (omega arith);
+              of-signal = λ q. clash (ap (λ (z : Kind). aComputed z) kd) (ap aComputed q);
+              of-computed = λ q. stale flag done;
+              of-effect = λ q x. clash rd (ap readable q);
+              of-scope = λ q. clash rd (ap readable q);
+              of-gone = λ q x. clash rd (ap readable q);
+              queued = λ j x. clash x (p .inside .gone-kind d h rd);
+            } in
+            let first : Dropped (Under g d) v s a = dropped-reset (Under g d) v d s f17 (s .gone) (under-same g st d) e (λ m q. refl) a refl refl refl refl refl refl refl refl refl in
+            let then : Dropped (Under g d) v a t = dropped-wider (Strict d) (Under g d) d v a t (λ m z. z .0) (λ z. absurd (z (under-same g st d))) dr in
+            (let-out g X t d (p .inside) rt, dropped-then (Under g d) v s a t first then)
+
+  -- ---- the recursion
+  module _ (X : Set) (s : St) (l : ℕ) (i : Inside g X s) (lv : s .live l ≡ true) (xu : X (s .sub l)) (apart : (m : ℕ) → Under g (s .dep l) m → X m → ⊥) where
+    free-most : length (s .free) < g .room .slots
+    free-most =
+        let a : suc (length (s .free)) ≤ g .room .slots = most-below (g .room .slots) (l ∷ s .free) (λ j. clash lv (i .lists .free-not-live l j .0), i .lists .free-once) low in
+        omega arith
+      where
+        low : (x : ℕ) → In x (l ∷ s .free) → x < g .room .slots
+        low x (inl q) = subst (λ (z : ℕ). z < g .room .slots) (sym q) (i .lists .live-slot l lv)
+        low x (inr j) = i .lists .free-not-live x j .1
+
+    cut-dropped : Dropped (Under g (s .dep l)) (s .sub l) s (cut s l)
+    unfolding cut
+    cut-dropped = record {
+      dep = refl;
+      sub = refl;
+      lists = λ m a b. (up-other (s .done) (s .sub l) (remove l (s .done (s .sub l))) m b, up-other (s .rest) (s .sub l) (remove l (s .rest (s .sub l))) m b);
+      flags = λ m a. (refl, refl);
+      fate = λ m. inl refl;
+      subs = λ m a. up-other (s .subs) (s .dep l) (remove l (s .subs (s .dep l))) m (λ q. a (subst (Under g (s .dep l)) (sym q) (under-same g st (s .dep l))));
+      fewer = λ k m j. remove-in k l (s .subs m) (subst (In k) (cut-subs g X s l i lv m) j) .0;
+      free = omega arith;
+      stuck = refl;
+    }
+
+    cut-free : length (cut s l .free) ≡ suc (length (s .free))
+    unfolding cut
+    cut-free = refl
+
+    not-own : s .dep l ≡ s .sub l → ⊥
+    not-own q = never-back g st (s .dep l) (s .sub l) (i .lists .inside l lv .0) (i .goes l lv) (subst (Under g (s .dep l)) q (under-same g st (s .dep l)))
+
+    cut-done : (cut s l .done (s .sub l) ≡ remove l (s .done (s .sub l))) × (cut s l .rest (s .sub l) ≡ remove l (s .rest (s .sub l)))
+    unfolding cut
+    cut-done = (up-same (s .done) (s .sub l) (remove l (s .done (s .sub l))), up-same (s .rest) (s .sub l) (remove l (s .rest (s .sub l))))
+
+    -- the dependency as it was, but for its subscribers
+    was : AtRest g (cut s l .queue) (cut s l .dep) (cut s l .sub) (s .dep l) (cut s l .fl (s .dep l)) (cut s l .gone (s .dep l)) (cut s l .done (s .dep l)) (cut s l .rest (s .dep l)) (s .subs (s .dep l))
+    unfolding cut
+    was =
+        at-same g (s .queue) (s .dep) (s .sub) (s .dep l) _ _ _ _ _ _ _ _ _ _ refl refl (up-other (s .done) (s .sub l) (remove l (s .done (s .sub l))) (s .dep l) not-own) (up-other (s .rest) (s .sub l) (remove l (s .rest (s .sub l))) (s .dep l) not-own) refl
+        (i .rests (s .dep l) (i .lists .inside l lv .0) (apart (s .dep l) (under-same g st (s .dep l))))
+
+    -- another subscriber is left: what can be read
+    left : (cut s l .subs (s .dep l) ≡ [] → ⊥) → Rests g (cut s l) (s .dep l)
+    left ne = record {
+      tail = was .tail;
+      owned = λ o a q. absurd (ne (alone o a q));
+      unowned = λ a q. absurd (nil-none (s .subs (s .dep l)) l (was .unowned a q) (i .lists .live-in-subs l lv));
+      bare = λ a. absurd (nil-none (s .subs (s .dep l)) l (was .bare a .1) (i .lists .live-in-subs l lv));
+      few = was .few;
+      of-signal = was .of-signal;
+      of-computed = λ q. go (was .of-computed q);
+      of-effect = was .of-effect;
+      of-scope = was .of-scope;
+      of-gone = was .of-gone;
+      queued = was .queued;
+    }
+      where
+        alone : (o : ℕ) → cut s l .gone (s .dep l) ≡ false → g .owner (s .dep l) ≡ some o → cut s l .subs (s .dep l) ≡ []
+        alone o a q =
+            let x = was .owned o a q in
+            none-nil (cut s l .subs (s .dep l)) (λ k j.
+            let y = remove-in k l (s .subs (s .dep l)) (subst (In k) (cut-subs g X s l i lv (s .dep l)) j) in
+            y .1 (same k (subst (In k) (x .1) (y .0)) ∙ sym (same l (subst (In l) (x .1) (i .lists .live-in-subs l lv)))))
+          where
+            same : {a : ℕ} (k : ℕ) → In k (a ∷ []) → k ≡ a
+            same k (inl e) = e
+
+        go : ComputedFlags (cut s l .fl (s .dep l)) (cut s l .done (s .dep l)) (s .subs (s .dep l)) → ComputedFlags (cut s l .fl (s .dep l)) (cut s l .done (s .dep l)) (cut s l .subs (s .dep l))
+        go (never x y z) = absurd (nil-none (s .subs (s .dep l)) l z (i .lists .live-in-subs l lv))
+        go (clean x) = clean x
+        go (stale x y) = stale x y
+        go (maybe x y) = maybe x y
+        go (dirty x y) = dirty x y
+
+    unlinked : (t : St) → Inside g X t × Dropped (Under g (s .dep l)) (s .dep l) (cut s l) t → Unlinked X s l t
+    unlinked t p =
+        let far : Under g (s .dep l) (s .sub l) → ⊥ = never-back g st (s .dep l) (s .sub l) (i .lists .inside l lv .0) (i .goes l lv) in
+        let keeps = p .1 .lists (s .sub l) far (λ q. not-own (sym q)) in
+        let then = dropped-wider (Under g (s .dep l)) (Under g (s .dep l)) (s .dep l) (s .sub l) (cut s l) t (λ m z. z) (λ z. absurd (z (under-same g st (s .dep l)))) (p .1) in
+        record {
+          inside = p .0;
+          dropped = dropped-then (Under g (s .dep l)) (s .sub l) s (cut s l) t cut-dropped then;
+          done = keeps .0 ∙ cut-done .0;
+          rest = keeps .1 ∙ cut-done .1;
+        }
+
+  unlink-inside : (k : ℕ) → Unlinks k (unlinkN k)
+  unfolding unlinkN
+  unlink-inside zero X s l i lv xu apart b = let a = free-most X s l i lv xu apart in absurd (omega arith)
+  unlink-inside (suc k) X s l i lv xu apart b =
+      let d = s .dep l in
+      let c = cut s l in
+      let ic = cut-inside g X s l i lv xu in
+      let fc = cut-free X s l i lv xu apart in
+      let in-time : g .room .slots ≤ k + length (c .free) = omega arith in
+      branch (Unlinked X s l) (s .live l)
+      (λ v. branch (Unlinked X s l) (isNil (c .subs d))
+      (λ e. unlinked X s l i lv xu apart (unwatchedW (unlinkN k) c d)
+      (unwatched-inside k (unlinkN k) (unlink-inside k) X c d d l (s .subs d) ic (i .lists .inside l lv .0) (isNil-true (c .subs d) e) (i .lists .live-in-subs l lv) (was X s l i lv xu apart) apart in-time))
+      (λ e. unlinked X s l i lv xu apart c (let-out g X c d ic (left X s l i lv xu apart (isNil-false (c .subs d) e)), dropped-same (Under g d) d c)))
+      (λ v. clash lv v)
+
+  -- ---- purge
+  pub purge-inside : (X : Set) (s : St) (u : ℕ) → Inside g X s → X u → ((m : ℕ) → Strict u m → X m → ⊥) → Purged X s u (purge s u)
+  purge-inside X s u i xu apart =
+      let e : s .room .slots ≡ g .room .slots = ap (λ (z : Given). z .room .slots) (i .same) in
+      purge-all (suc (s .room .slots)) (unlinkN (suc (s .room .slots))) (unlink-inside (suc (s .room .slots))) X u xu apart (s .rest u) s i refl (omega arith)
+
+  -- ---- dispose, at rest: x loses what it owns and reads, then the link to its owner
+  module _ (s : St) (x : ℕ) (i : Inside g nobody s) (h : x < g .size) (r : readable (g .kind x) ≡ false) where
+    abbrev X : Set
+    X = also nobody x
+
+    abbrev K : ℕ
+    K = s .room .slots
+
+    budget : (t : St) → g .room .slots ≤ K + length (t .free)
+    budget t = let e : s .room .slots ≡ g .room .slots = ap (λ (z : Given). z .room .slots) (i .same) in omega arith
+
+    abbrev begun : St
+    begun = setGone (setFl (rewind s x) x f0) x true
+
+    abbrev emptied : St
+    emptied = purgeW (unlinkN (suc K)) begun x
+
+    i-begun : Inside g X begun
+    i-begun = gone-inside g X (setFl (rewind s x) x f0) x (flags-inside g X (rewind s x) x (rewind-inside g X s x (widen g nobody X s (λ n z. absurd z) i) (inr refl)) (inr refl) f0 (λ q. refl)) (inr refl) r
+
+    away : (m : ℕ) → Strict x m → X m → ⊥
+    away m p (inr q) = p .1 q
+
+    purged : Purged X begun x emptied
+    purged =
+        let b = budget begun in
+        purge-all (suc K) (unlinkN (suc K)) (unlink-inside (suc K)) X x (inr refl) away (begun .rest x) begun i-begun refl (omega arith)
+
+    outside : Strict x x → ⊥
+    outside z = z .1 refl
+
+    same-subs : emptied .subs x ≡ s .subs x
+    same-subs = purged .dropped .subs x outside
+
+    flag : emptied .fl x ≡ f0
+    flag = purged .dropped .flags x outside .0 ∙ up-same (s .fl) x f0
+
+    gone-now : emptied .gone x ≡ true
+    gone-now = purged .dropped .flags x outside .1 ∙ up-same (s .gone) x true
+
+    no-deps : emptied .done x ≡ []
+    no-deps = purged .done ∙ up-same (s .done) x []
+
+    was-resting : Rests g s x
+    was-resting = i .rests x h (λ z. z)
+
+    -- the owner's link, alone in its list
+    module _ (l : ℕ) (ls : List ℕ) (e : emptied .subs x ≡ l ∷ ls) where
+      linked : (emptied .live l ≡ true) × (emptied .dep l ≡ x)
+      linked = purged .inside .lists .subs-live l x (subst (In l) (sym e) (inl refl))
+
+      abbrev t : St
+      t = emptied
+
+      abbrev p : ℕ
+      p = emptied .sub l
+
+      goes-up : Goes g x p
+      goes-up = subst (λ (z : ℕ). Goes g z p) (linked .1) (purged .inside .goes l (linked .0))
+
+      p-owns : readable (g .kind p) ≡ false
+      p-owns = owner-owns g st x p goes-up r
+
+      p-low : p < g .size
+      p-low = purged .inside .lists .inside l (linked .0) .1
+
+      p-other : p ≡ x → ⊥
+      p-other q = never-back g st x p h goes-up (subst (Under g x) (sym q) (under-same g st x))
+
+      abbrev Y : Set
+      Y = also X p
+
+      i-cut : Inside g Y (cut t l)
+      i-cut = widen g (also Y (t .dep l)) Y (cut t l) in-y (cut-inside g Y t l (widen g X Y t (λ n z. inl z) (purged .inside)) (linked .0) (inr refl))
+        where
+          in-y : (n : ℕ) → also Y (t .dep l) n → Y n
+          in-y n (inl y) = y
+          in-y n (inr q) = inl (inr (q ∙ linked .1))
+
+      p-rests : Rests g t p
+      p-rests = purged .inside .rests p p-low (λ z. not-x z)
+        where
+          not-x : X p → ⊥
+          not-x (inr q) = p-other q
+
+      not-read : readable (g .kind (t .dep l)) ≡ false
+      not-read = ap (λ (z : ℕ). readable (g .kind z)) (linked .1) ∙ r
+
+      reads-stay : readLinks (g .kind) (t .dep) (remove l (t .done p)) ≡ readLinks (g .kind) (t .dep) (t .done p)
+      reads-stay = reads-remove (g .kind) (t .dep) l (t .done p) not-read
+
+      p-after : AtRest g (t .queue) (t .dep) (t .sub) p (t .fl p) (t .gone p) (remove l (t .done p)) (remove l (t .rest p)) (t .subs p)
+      unfolding remove
+      p-after =
+          let w = p-rests in
+          record {
+            tail = ap (remove l) (w .tail);
+            owned = w .owned;
+            unowned = w .unowned;
+            bare = λ a. (ap (remove l) (w .bare a .0), w .bare a .1);
+            few = subst (λ (z : List ℕ). length z ≤ length (names (g .form p))) (sym reads-stay) (w .few);
+            of-signal = λ k. clash (ap readable k) p-owns;
+            of-computed = λ k. clash (ap readable k) p-owns;
+            of-effect = λ k a. subst (EffectFlags p (t .fl p) (t .queue)) (sym reads-stay) (w .of-effect k a);
+            of-scope = w .of-scope;
+            of-gone = w .of-gone;
+            queued = w .queued;
+          }
+
+      i-left : Inside g X (cut t l)
+      unfolding cut
+      i-left =
+          let-out g X (cut t l) p i-cut
+          (at-same g (t .queue) (t .dep) (t .sub) p _ _ _ _ _ _ _ _ _ _ refl refl
+          (up-same (t .done) p (remove l (t .done p))) (up-same (t .rest) p (remove l (t .rest p)))
+          (up-other (t .subs) (t .dep l) (remove l (t .subs (t .dep l))) p (λ q. p-other (q ∙ linked .1))) p-after)
+
+      alone : cut t l .subs x ≡ []
+      alone =
+          cut-subs g X t l (purged .inside) (linked .0) x
+          ∙ none-nil (remove l (t .subs x)) (λ k j. let y = remove-in k l (t .subs x) j in y .1 (one k (y .0) ∙ sym (one l (subst (In l) (sym e) (inl refl)))))
+        where
+          same : {a : ℕ} (k : ℕ) → In k (a ∷ []) → k ≡ a
+          same k (inl q) = q
+
+          first : (k : ℕ) → In k (s .subs x) → (gn : Bool) → s .gone x ≡ gn → (ow : Option ℕ) → g .owner x ≡ ow → k ≡ headOr (s .subs x)
+          first k j true a ow b = absurd (nil-none (s .subs x) k (was-resting .bare a .1) j)
+          first k j false a none b = absurd (nil-none (s .subs x) k (was-resting .unowned r b) j)
+          first k j false a (some o) b = let w = was-resting .owned o a b in same k (subst (In k) (w .1) j) ∙ sym (ap headOr (w .1))
+
+          one : (k : ℕ) → In k (t .subs x) → k ≡ headOr (s .subs x)
+          one k j = first k (subst (In k) same-subs j) (s .gone x) refl (g .owner x) refl
+
+      gone-too : Inside g nobody (unlinkN (suc K) t l) × (unlinkN (suc K) t l .stuck ≡ t .stuck)
+      unfolding unlinkN unwatchedW cut
+      gone-too =
+          let d = t .dep l in
+          let c = cut t l in
+          let P : St → Type 0 = λ z. Inside g nobody z × (z .stuck ≡ t .stuck) in
+          branch P (t .live l)
+          (λ a. branch P (isNil (c .subs d))
+          (λ q. subst (λ (y : ℕ). P (unwatchedW (unlinkN K) c y)) (sym (linked .1))
+          (branch P (c .fl x .mutable) (λ m. clash m (ap (λ (z : Named). z .mutable) flag))
+          (λ m. let w = dispose-bare K (unlinkN K) (unlink-inside K) nobody c x x i-left h r alone (λ n y z. z) (budget c) in (w .0, w .1 .stuck))))
+          (λ q. absurd (isNil-false (c .subs d) q (subst (λ (y : ℕ). c .subs y ≡ []) (sym (linked .1)) alone))))
+          (λ a. clash (linked .0) a)
+
+    pub dispose-inside : Inside g nobody (dispose s x) × (dispose s x .stuck ≡ s .stuck)
+    unfolding disposeW lastLink
+    dispose-inside = go (emptied .subs x) refl
+      where
+        go : (ls : List ℕ) → emptied .subs x ≡ ls → Inside g nobody (lastLink (unlinkN (suc K)) emptied (headOf ls)) × (lastLink (unlinkN (suc K)) emptied (headOf ls) .stuck ≡ s .stuck)
+        go [] e = (
+          let-out g nobody emptied x (purged .inside)
+              (rests-gone g (emptied .queue) (emptied .dep) (emptied .sub) x (emptied .fl x) (emptied .gone x) (emptied .done x) (emptied .rest x) (emptied .subs x) r flag gone-now no-deps (purged .rest) e),
+          purged .dropped .stuck,
+        )
+        go (l ∷ ls) e = let w = gone-too l ls e in (w .0, w .1 ∙ purged .dropped .stuck)
