@@ -18,3 +18,5 @@ pub mod Accepted
 pub mod Members
 pub mod Inside
 pub mod Dropping
+pub mod Room
+pub mod Linking
