@@ -20,3 +20,5 @@ pub mod Inside
 pub mod Dropping
 pub mod Room
 pub mod Linking
+pub mod Frames
+pub mod Soiling
