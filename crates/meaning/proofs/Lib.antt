@@ -22,3 +22,4 @@ pub mod Room
 pub mod Linking
 pub mod Frames
 pub mod Soiling
+pub mod Reading

@@ -75,7 +75,7 @@ module _ (g : Given) (X : Set) (s : St) (d u v l : ℕ) (ls : List ℕ) (i : Ins
   dead = o .free-not-live l (subst (In l) (sym e) (inl refl))
 
   -- a link that was live is another one
-  other : (k : ℕ) → s .live k ≡ true → k ≡ l → ⊥
+  pub other : (k : ℕ) → s .live k ≡ true → k ≡ l → ⊥
   other k lv q = clash lv (ap (s .live) q ∙ dead .0)
 
   subs-more : (k w : ℕ) → In k (s .subs w) → In k (t .subs w)
