@@ -23,3 +23,4 @@ pub mod Linking
 pub mod Frames
 pub mod Soiling
 pub mod Reading
+pub mod Updating

@@ -1,0 +1,307 @@
+-- The second ring inside an operation: first evaluation, update, dirty check and read keep well-formedness and are not stuck. Assumes nothing.
+use mathlib.Core.Path.{_≡_, refl, sym, ap, ap₂, _∙_, subst}
+use mathlib.Core.Logic.{_⊎_, inl, inr}
+use mathlib.Core.Bool.{Bool, true, false, not, _&&_}
+use mathlib.Core.List.{List, [], _∷_, _++_, append-nil, append-assoc}
+use Prim.Native.Nat.{ℕ, zero, suc, _+_, _≤_, _<_}
+use native.Mathlib.Omega.{arith}
+use lib.Dec.{eqb}
+use lib.ListN.{length}
+use borrow.Author.Tests.{eq-eqb, eqb-true, eqb-false}
+use Rattle.primitive.specs.declared.flags.Named.{Named}
+use Rattle.primitive.specs.declared.values.Value.{Value}
+use Rattle.primitive.specs.Values.{same}
+use Rattle.formula.specs.Trees.{Tree, names}
+use Rattle.meaning.specs.State.{St, Kind, signal, computed, effect, scope, readable, deps, bare, f0, f1, f5, f6, f17, f33, withPending, raised, up}
+use Rattle.meaning.specs.Setters.{setFl, setSto, withCycle}
+use Rattle.meaning.specs.Links.{isNil, several, rewind, purge}
+use Rattle.meaning.specs.Marks.{shallow}
+use Rattle.meaning.specs.Reads.{Ans, ans, Out, evalBy, readW, evaluateW, firstW, updComputed, updSignal, updW, sameSlots, steady, checkOn, checkW, pendingW, freshW, fresh}
+use Rattle.meaning.specs.WellFormed.{In, readLinks, ComputedFlags, never, clean, stale, maybe, dirty}
+use Rattle.meaning.proofs.Laws.{clash, false≢true, either, branch, up-same, up-other, up-by, in-left, in-right, in-cases}
+use Rattle.meaning.proofs.Members.{nil-none, isNil-true, isNil-false, append-is-nil, reads-few}
+use Rattle.meaning.proofs.Still.{Given, given}
+use Rattle.meaning.proofs.Inside.{Set, also, Static, Goes, AtRest, Rests, Inside, widen, let-out, read-moves, moves-read, Under}
+use Rattle.meaning.proofs.Dropping.{aComputed, flags-inside, rewind-inside, Purged, purge-inside}
+use Rattle.meaning.proofs.Room.{ownerLinks, spends, Paid}
+use Rattle.meaning.proofs.Frames.{others, Low, Soiled, Frame, frame-flags, frame-same, frame-then, frame-wider, paid-frame, Open, open-frame, rests-clean, signal-lists, purge-frame}
+use Rattle.meaning.proofs.Soiling.{shallow-inside, shallow-frame}
+use Rattle.meaning.proofs.Reading.{Above, Freshened, Freshens, Near, reads-of, During, eval-during}
+
+-- ---- a list is what it is
+same-slots : (xs : List ℕ) → sameSlots xs xs ≡ true
+unfolding sameSlots
+same-slots [] = refl
+same-slots (x ∷ xs) = rw (eq-eqb x x refl, sameSlots, same-slots xs)
+
+steady-same : (was : List ℕ) (t : St) (d : ℕ) → t .subs d ≡ was → (was ≡ [] → ⊥) → steady was t d ≡ t
+unfolding steady
+steady-same was t d e h =
+    branch (λ (x : St). x ≡ t) (sameSlots was (t .subs d) && not (isNil was)) (λ q. refl)
+    (λ q. clash (both (subst (λ (z : List ℕ). sameSlots was z ≡ true) (sym e) (same-slots was)) (full was h)) q)
+  where
+    both : {a b : Bool} → a ≡ true → b ≡ true → (a && b) ≡ true
+    both p q = ap₂ (λ (x y : Bool). x && y) p q
+
+    full : (xs : List ℕ) → (xs ≡ [] → ⊥) → not (isNil xs) ≡ true
+    full [] k = absurd (k refl)
+    full (x ∷ xs) k = refl
+
+module _ (g : Given) (st : Static g) where
+  also-known : (X : Set) (n : ℕ) → ((m : ℕ) → X m ⊎ (X m → ⊥)) → (m : ℕ) → also X n m ⊎ (also X n m → ⊥)
+  also-known X n k m = either (eqb m n) (λ e. inl (inr (eqb-true m n e))) (λ e. go (eqb-false m n e) (k m))
+    where
+      go : (m ≡ n → ⊥) → X m ⊎ (X m → ⊥) → also X n m ⊎ (also X n m → ⊥)
+      go e (inl x) = inl (inl x)
+      go e (inr f) = inr (neither e f)
+        where
+          neither : (m ≡ n → ⊥) → (X m → ⊥) → also X n m → ⊥
+          neither e f (inl x) = f x
+          neither e f (inr q) = e q
+
+  module _ (k : ℕ) (fr : St → ℕ → Ans) (frs : Freshens g st k fr) where
+    -- ---- the evaluation of a computed n, from s where it is at rest, with its flags 5 in s₁, to where its value is in
+    module _ (X : Set) (s s₁ : St) (n : ℕ) (i : Inside g X s) (o : Open g st X s) (h : n < g .size) (kn : g .kind n ≡ computed) (ab : Above g st X n) (le : n ≤ k)
+        (i₁ : Inside g (also X n) s₁) (f₁ : Frame g (Low g (suc n)) n s s₁) (empty : s₁ .done n ≡ []) (left : length (readLinks (g .kind) (s₁ .dep) (s₁ .rest n)) ≤ reads-of g st n) where
+      rn : readable (g .kind n) ≡ true
+      rn = ap readable kn
+
+      above : (m : ℕ) → also X n m → readable (g .kind m) ≡ true → n ≤ m
+      above m (inl x) r = let a = ab m x r in omega arith
+      above m (inr q) r = omega arith
+
+      far : (m : ℕ) → X m → Low g (suc n) m → ⊥
+      far m x p = let a = ab m x (ap readable (p .0)) in let b = p .1 in omega arith
+
+      begin : During g st (also X n) n s₁ 0 s₁
+      begin =
+          let z = ap length empty in
+          record {
+            inside = i₁;
+            frame = frame-same g (Near g st n) n s₁;
+            few = omega arith;
+            left = left;
+            spare = spare (g .kind n) refl kn;
+            tail = λ q. q;
+            known = also-known X n (o .known);
+            pays = λ m l x q. pays m l q x;
+          }
+        where
+          spare : (c : Kind) → g .kind n ≡ c → g .kind n ≡ computed → length (ownerLinks (g .kind n) (s₁ .subs n)) + (reads-of g st n + reads-of g st n) ≤ spends g s₁ n
+          spare signal e q = clash (ap aComputed q) (ap aComputed e)
+          spare computed e q = rw (e) (omega arith)
+          spare effect e q = clash (ap readable q) (ap readable e)
+          spare scope e q = clash (ap readable q) (ap readable e)
+
+          pays : (m : ℕ) → m < g .size → (m ≡ n → ⊥) → also X n m → Paid g s₁ m
+          pays m l q (inl x) = paid-frame g st (also X n) (Low g (suc n)) n s s₁ m (widen g X (also X n) s (λ y z. inl z) i) i₁ f₁ l (far m x) (o .pays m l x)
+          pays m l q (inr e) = absurd (q e)
+
+      abbrev out : Out
+      out = evalBy (readW fr n) (g .form n) s₁
+
+      went : During g st (also X n) n s₁ (reads-of g st n) (out .st)
+      went =
+          let e : 0 + reads-of g st n ≡ reads-of g st n = omega arith in
+          subst (λ (j : ℕ). During g st (also X n) n s₁ j (out .st)) e (eval-during g st (also X n) n (inr refl) h above s₁ i₁ k fr frs le (g .form n) (λ m z. z) 0 s₁ (omega arith) begin)
+
+      abbrev stored : St
+      stored = setFl (setSto (out .st) n (out .val)) n f1
+
+      i-stored : Inside g (also X n) stored
+      i-stored = flags-inside g (also X n) (setSto (out .st) n (out .val)) n (others g (also X n) (out .st) (went .inside) (out .st .cycle) (up (out .st .sto) n (out .val)) (out .st .pend) (out .st .depth) (out .st .log)) (inr refl) f1 (λ q. refl)
+
+      f-stored : Frame g (Low g (suc n)) n s stored
+      f-stored =
+          let a : Frame g (Low g (suc n)) n s₁ (out .st) = frame-wider g (Near g st n) (Low g (suc n)) n n s₁ (out .st) near (omega arith) (went .frame) in
+          let b : Frame g (Low g (suc n)) n (out .st) stored = frame-flags g (Low g (suc n)) n (out .st) stored refl refl refl refl refl refl (λ m z. (refl, refl))
+          (λ m z q. up-other (out .st .fl) n f1 m (λ e. z (ap (g .kind) e ∙ kn, omega arith))) (λ m q. up-by (out .st .fl) n f1 (λ (x : Named). x ≡ f1) m (λ e. refl) (λ e. q)) in
+          frame-then g (Low g (suc n)) n s (out .st) stored (i .lists) (went .inside .lists) (frame-then g (Low g (suc n)) n s s₁ (out .st) (i .lists) (i₁ .lists) f₁ a) b
+        where
+          near : (m : ℕ) → Near g st n m → Low g (suc n) m
+          near m (inl p) = let a = p .1 in (p .0, omega arith)
+          near m (inr q) = (ap (g .kind) q ∙ kn, omega arith)
+
+      few-stored : length (readLinks (g .kind) (stored .dep) (stored .done n)) ≤ reads-of g st n
+      few-stored = let a = reads-few (g .kind) (stored .dep) (stored .done n) in let b = went .few in omega arith
+
+      -- a first evaluation has nothing to purge
+      first-ends : s₁ .rest n ≡ [] → Freshened g st X s n (ans stored false)
+      first-ends e = record {
+        inside = let-out g X stored n i-stored
+            (rests-clean g st (stored .queue) (stored .dep) (stored .sub) n (stored .fl n) (stored .gone n) (stored .done n) (stored .rest n) (stored .subs n) h rn
+            (up-same (out .st .fl) n f1) (i-stored .gone-kind n h rn) (went .tail e) few-stored);
+        frame = f-stored;
+        clean = up-same (out .st .fl) n f1;
+        changed = λ q. false≢true q;
+      }
+
+      update-ends : (b : Bool) → (b ≡ true → s .fl n ≡ f1 → ⊥) → Freshened g st X s n (ans (purge stored n) b)
+      update-ends b ch =
+          let p = purge-inside g st (also X n) stored n i-stored (inr refl) apart in
+          let t = purge stored n in
+          let outside : Under g n n × (n ≡ n → ⊥) → ⊥ = λ z. z .1 refl in
+          let flag : t .fl n ≡ f1 = p .dropped .flags n outside .0 ∙ up-same (out .st .fl) n f1 in
+          let a = ap (λ (x : List ℕ). length x) (p .done) in
+          let b = reads-few (g .kind) (t .dep) (t .done n) in
+          let c = went .few in
+          record {
+            inside = let-out g X t n (p .inside) (rests-clean g st (t .queue) (t .dep) (t .sub) n (t .fl n) (t .gone n) (t .done n) (t .rest n) (t .subs n) h rn flag (p .inside .gone-kind n h rn) (p .rest) (omega arith));
+            frame = frame-then g (Low g (suc n)) n s stored t (i .lists) (i-stored .lists) f-stored (purge-frame g st (also X n) stored t n i-stored h kn p);
+            clean = flag;
+            changed = ch;
+          }
+        where
+          apart : (m : ℕ) → Under g n m × (m ≡ n → ⊥) → also X n m → ⊥
+          apart m p (inl x) = either (readable (g .kind m)) (λ r. let a = ab m x r in let b = p .0 .low r rn in omega arith) (λ r. clash rn (p .0 .high r .0))
+          apart m p (inr q) = p .1 q
+
+    module _ (X : Set) (s : St) (n : ℕ) (i : Inside g X s) (o : Open g st X s) (h : n < g .size) (ab : Above g st X n) (le : n ≤ k) where
+      form-is : s .form n ≡ g .form n
+      form-is = ap (λ (z : Given). z .form n) (i .same)
+
+      wide : Inside g (also X n) s
+      wide = widen g X (also X n) s (λ m x. inl x) i
+
+      -- at rest, a node that can be read is outside X
+      n-off : readable (g .kind n) ≡ true → X n → ⊥
+      n-off r x = let a = ab n x r in omega arith
+
+      first-inside : g .kind n ≡ computed → s .fl n ≡ f0 → s .done n ≡ [] → s .rest n ≡ [] → Freshened g st X s n (ans (firstW fr s n) false)
+      unfolding firstW readLinks
+      first-inside kn fl e e′ =
+          let s₁ = setFl s n f5 in
+          let i₁ : Inside g (also X n) s₁ = flags-inside g (also X n) s n wide (inr refl) f5 (λ q. refl) in
+          let f₁ : Frame g (Low g (suc n)) n s s₁ = frame-flags g (Low g (suc n)) n s s₁ refl refl refl refl refl refl (λ m z. (refl, refl))
+          (λ m z q. up-other (s .fl) n f5 m (λ x. z (ap (g .kind) x ∙ kn, omega arith)))
+          (λ m q. up-other (s .fl) n f5 m (λ x. clash (ap (λ (z : Named). z .mutable) q) (ap (λ (z : Named). z .mutable) (ap (s .fl) x ∙ fl))) ∙ q) in
+          let few : length (readLinks (g .kind) (s .dep) (s .rest n)) ≤ reads-of g st n = subst (λ (x : List ℕ). length (readLinks (g .kind) (s .dep) x) ≤ reads-of g st n) (sym e′) (omega arith) in
+          subst (λ (t : Tree). Freshened g st X s n (let z = evalBy (readW fr n) t s₁ in ans (setFl (setSto (z .st) n (z .val)) n f1) false)) (sym form-is)
+          (first-ends X s s₁ n i o h kn ab le i₁ f₁ e few e′)
+
+      update-inside : g .kind n ≡ computed → (s .fl n ≡ f1 → ⊥) → Freshened g st X s n (updComputed fr s n)
+      unfolding updComputed
+      update-inside kn un =
+          let c = withCycle s (raised (s .cycle)) in
+          let s₁ = setFl (rewind c n) n f5 in
+          let ic : Inside g (also X n) c = others g (also X n) s wide (raised (s .cycle)) (s .sto) (s .pend) (s .depth) (s .log) in
+          let i₁ : Inside g (also X n) s₁ = flags-inside g (also X n) (rewind c n) n (rewind-inside g (also X n) c n ic (inr refl)) (inr refl) f5 (λ q. refl) in
+          let off : (m : ℕ) → (Low g (suc n) m → ⊥) → m ≡ n → ⊥ = λ m z x. z (ap (g .kind) x ∙ kn, omega arith) in
+          let f₁ : Frame g (Low g (suc n)) n s s₁ = frame-flags g (Low g (suc n)) n s s₁ refl refl refl refl refl refl
+          (λ m z. (up-other (s .done) n [] m (off m z), up-other (s .rest) n (s .done n ++ s .rest n) m (off m z)))
+          (λ m z q. up-other (s .fl) n f5 m (off m z))
+          (λ m q. up-other (s .fl) n f5 m (λ x. un (sym (ap (s .fl) x) ∙ q)) ∙ q) in
+          let r = i .rests n h (n-off (ap readable kn)) in
+          let all : s₁ .rest n ≡ s .done n = up-same (s .rest) n (s .done n ++ s .rest n) ∙ ap (λ (x : List ℕ). s .done n ++ x) (r .tail) ∙ append-nil (s .done n) in
+          let few : length (readLinks (g .kind) (s .dep) (s₁ .rest n)) ≤ reads-of g st n = subst (λ (x : List ℕ). length (readLinks (g .kind) (s .dep) x) ≤ reads-of g st n) (sym all) (r .few) in
+          subst (λ (t : Tree). Freshened g st X s n (let z = evalBy (readW fr n) t s₁ in ans (purge (setFl (setSto (z .st) n (z .val)) n f1) n) (not (same (s .sto n) (z .val))))) (sym form-is)
+          (update-ends X s s₁ n i o h kn ab le i₁ f₁ (up-same (s .done) n []) few (not (same (s .sto n) _)) (λ q. un))
+
+      signal-inside : g .kind n ≡ signal → (s .fl n ≡ f1 → ⊥) → Freshened g st X s n (updSignal s n)
+      unfolding updSignal
+      signal-inside kn un =
+          let t = setSto (setFl s n f1) n (s .pend n) in
+          let it : Inside g (also X n) t = others g (also X n) (setFl s n f1) (flags-inside g (also X n) s n wide (inr refl) f1 (λ q. refl)) (s .cycle) (up (s .sto) n (s .pend n)) (s .pend) (s .depth) (s .log) in
+          let r = i .rests n h (n-off (ap readable kn)) in
+          record {
+            inside = let-out g X t n it
+                (rests-clean g st (t .queue) (t .dep) (t .sub) n (t .fl n) (t .gone n) (t .done n) (t .rest n) (t .subs n) h (ap readable kn) (up-same (s .fl) n f1) (i .gone-kind n h (ap readable kn)) (r .tail) (r .few));
+            frame = frame-flags g (Low g (suc n)) n s t refl refl refl refl refl refl (λ m z. (refl, refl)) (λ m z q. up-other (s .fl) n f1 m (λ x. q (ap (g .kind) x ∙ kn)))
+                (λ m q. up-by (s .fl) n f1 (λ (x : Named). x ≡ f1) m (λ e. refl) (λ e. q));
+            clean = up-same (s .fl) n f1;
+            changed = λ q. un;
+          }
+
+      upd-inside : readable (g .kind n) ≡ true → (s .fl n ≡ f1 → ⊥) → (c : Kind) → g .kind n ≡ c → Freshened g st X s n (updW fr c s n)
+      unfolding updW
+      upd-inside r d signal e = signal-inside e d
+      upd-inside r d computed e = update-inside e d
+      upd-inside r d effect e = clash r (ap readable e)
+      upd-inside r d scope e = clash r (ap readable e)
+
+    -- ---- the dirty check of u
+    pub record Checked (X : Set) (s : St) (u : ℕ) (a : Ans) : Type 0 where
+      pub inside : Inside g X (a .st)
+      pub frame : Frame g (Low g u) u s (a .st)
+      pub answer : a .yes ≡ false → a .st .fl u .dirty ≡ false
+
+    module _ (X : Set) (u : ℕ) (hu : u < g .size) (le : u ≤ k) (above : (m : ℕ) → X m → readable (g .kind m) ≡ true → u ≤ m) (apart : (d : ℕ) → d < g .size → Goes g d u → X d → ⊥) where
+      u-off : Low g u u → ⊥
+      u-off p = let a = p .1 in omega arith
+
+      X-off : (m : ℕ) → X m → Low g u m → ⊥
+      X-off m x p = let a = above m x (ap readable (p .0)) in let b = p .1 in omega arith
+
+      checkOn-inside : (ls passed : List ℕ) (s : St) → Inside g X s → Open g st X s → deps s u ≡ passed ++ ls
+          → ((l : ℕ) → In l passed → readable (g .kind (s .dep l)) ≡ true → s .fl (s .dep l) ≡ f1) → (s .fl u .dirty ≡ true → ls ≡ [] → ⊥) → Checked X s u (checkOn fr u s ls)
+      unfolding checkOn
+      checkOn-inside [] passed s i o e pass dl = record { inside = i; frame = frame-same g (Low g u) u s; answer = λ z. either (s .fl u .dirty) (λ q. absurd (dl q refl)) (λ q. q) }
+      checkOn-inside (l ∷ ls) passed s i o e pass dl =
+          let lin : In l (deps s u) = subst (In l) (sym e) (in-right l passed (l ∷ ls) (inl refl)) in
+          let lv = i .lists .deps-live l u lin in
+          let d = s .dep l in
+          let hd : d < g .size = i .lists .inside l (lv .0) .0 in
+          let gd : Goes g d u = subst (Goes g d) (lv .1) (i .goes l (lv .0)) in
+          let d-off = apart d hd gd in
+          let rd = i .rests d hd d-off in
+          let has = i .lists .live-in-subs l (lv .0) in
+          let next : deps s u ≡ (passed ++ l ∷ []) ++ ls = e ∙ sym (append-assoc passed (l ∷ []) ls) in
+          branch (Checked X s u) (s .fl u .dirty) (λ q. record { inside = i; frame = frame-same g (Low g u) u s; answer = λ z. false≢true (sym z) })
+          (λ q. branch (Checked X s u) (s .fl d .mutable)
+          (λ m. let r : readable (g .kind d) ≡ true = moves-read g (s .queue) (s .dep) (s .sub) d _ _ _ _ _ rd m in
+          let lo = gd .lower r in
+          let a = fr s d in
+          let f = frs X s d i o hd r (λ n x y. let z = above n x y in omega arith) (omega arith) in
+          let t = a .st in
+          let u-far : Low g (suc d) u → ⊥ = λ p. let z = p .1 in omega arith in
+          let st-same : steady (s .subs d) t d ≡ t = steady-same (s .subs d) t d (f .frame .subs d (λ z. omega arith)) (λ z. nil-none (s .subs d) l z has) in
+          let wide : Frame g (Low g u) u s t = frame-wider g (Low g (suc d)) (Low g u) d u s t (λ n p. let z = p .1 in (p .0, omega arith)) (omega arith) (f .frame) in
+          subst (λ (x : St). Checked X s u (elim (a .yes) [ true ↦ ans (elim (several (x .subs d)) [ true ↦ shallow x d | false ↦ x ]) true | false ↦ checkOn fr u x ls ])) (sym st-same)
+          (branch (Checked X s u) (a .yes)
+          (λ y. branch (λ (x : St). Checked X s u (ans x true)) (several (t .subs d))
+          (λ z. record { inside = shallow-inside g X t d (f .inside); frame = shallow-frame g X (Low g u) u u s t d i (f .inside) wide (omega arith) lo r (f .changed y); answer = λ w. false≢true (sym w) })
+          (λ z. record { inside = f .inside; frame = wide; answer = λ w. false≢true (sym w) }))
+          (λ y. let lists = f .frame .lists u u-far in
+          let deps-same : deps t u ≡ deps s u = ap₂ (λ (x z : List ℕ). x ++ z) (lists .0) (lists .1) in
+          let held : (j : ℕ) → In j (deps s u) → s .fl (s .dep j) ≡ f1 → (t .dep j ≡ s .dep j) × (t .fl (s .dep j) ≡ f1) =
+          λ j z c. let w = i .lists .deps-live j u z in let off : Low g (suc d) (s .sub j) → ⊥ = λ p. u-far (subst (Low g (suc d)) (w .1) p) in (f .frame .links j (w .0) off .1, f .frame .held j (w .0) off c) in
+          let dep-l : t .dep l ≡ d = f .frame .links l (lv .0) (λ p. u-far (subst (Low g (suc d)) (lv .1) p)) .1 in
+          let n = checkOn-inside ls (passed ++ l ∷ []) t (f .inside) (open-frame g st X (Low g u) u s t i (f .inside) wide X-off o) (deps-same ∙ next)
+          (λ j z c. in-cases j passed (l ∷ []) z
+          (λ w. let v : In j (deps s u) = subst (In j) (sym e) (in-left j passed (l ∷ ls) w) in
+          let x = i .lists .deps-live j u v in
+          let dj : t .dep j ≡ s .dep j = f .frame .links j (x .0) (λ p. u-far (subst (Low g (suc d)) (x .1) p)) .1 in
+          let y = held j v (pass j w (subst (λ (b : ℕ). readable (g .kind b) ≡ true) dj c)) in
+          subst (λ (b : ℕ). t .fl b ≡ f1) (sym dj) (y .1))
+          (λ w. subst (λ (b : ℕ). t .fl b ≡ f1) (sym (ap (t .dep) (one j w) ∙ dep-l)) (f .clean)))
+          (λ soil z. absurd (later s d l ls passed lv q e z pass (f .frame .soiled u u-far (λ w. gd .of-signal w) q soil) i)) in
+          record {
+            inside = n .inside;
+            frame = frame-then g (Low g u) u s t _ (i .lists) (f .inside .lists) wide (n .frame);
+            answer = n .answer;
+          })))
+          (λ m. let own : readable (g .kind d) ≡ false = either (readable (g .kind d)) (λ r. clash (read-moves g (s .queue) (s .dep) (s .sub) d _ _ _ _ _ rd l has r) m) (λ r. r) in
+          checkOn-inside ls (passed ++ l ∷ []) s i o next
+          (λ j z c. in-cases j passed (l ∷ []) z (λ w. pass j w c) (λ w. clash (subst (λ (b : ℕ). readable (g .kind (s .dep b)) ≡ true) (one j w) c) own))
+          (λ soil z. clash soil q)))
+        where
+          one : {b : ℕ} (j : ℕ) → In j (b ∷ []) → j ≡ b
+          one j (inl q) = q
+
+          -- DIRTY came by a later link
+          later : (s : St) (d l : ℕ) (ls passed : List ℕ) → (s .live l ≡ true) × (s .sub l ≡ u) → s .fl u .dirty ≡ false → deps s u ≡ passed ++ (l ∷ ls) → ls ≡ []
+              → ((j : ℕ) → In j passed → readable (g .kind (s .dep j)) ≡ true → s .fl (s .dep j) ≡ f1) → Soiled g (s .dep l) s u → Inside g X s → ⊥
+          later s d l ls passed lv q e z pass w i =
+              in-cases (w .link) passed (l ∷ ls) (subst (In (w .link)) e (subst (λ (b : ℕ). In (w .link) (deps s b)) (w .to) (i .lists .live-in-deps (w .link) (w .live))))
+              (λ a. w .unclean (pass (w .link) a (w .reads)))
+              (λ a. last a)
+            where
+              last : In (w .link) (l ∷ ls) → ⊥
+              last (inl b) = let c = w .low in let v = ap (s .dep) b in omega arith
+              last (inr b) = nil-none ls (w .link) z b
+
+      pub check-inside : (s : St) → Inside g X s → Open g st X s → (deps s u ≡ [] → ⊥) → Checked X s u (checkW fr s u)
+      unfolding checkW
+      check-inside s i o ne =
+          branch (Checked X s u) (isNil (deps s u)) (λ e. absurd (ne (isNil-true (deps s u) e)))
+          (λ e. checkOn-inside (deps s u) [] s i o refl (λ l j. absurd j) (λ q z. ne z))
