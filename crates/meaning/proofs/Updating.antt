@@ -305,3 +305,117 @@ module _ (g : Given) (st : Static g) where
       check-inside s i o ne =
           branch (Checked X s u) (isNil (deps s u)) (λ e. absurd (ne (isNil-true (deps s u) e)))
           (λ e. checkOn-inside (deps s u) [] s i o refl (λ l j. absurd j) (λ q z. ne z))
+
+    -- ---- never evaluated, dirty, pending, clean
+    module _ (X : Set) (s : St) (n : ℕ) (i : Inside g X s) (o : Open g st X s) (h : n < g .size) (r : readable (g .kind n) ≡ true) (ab : Above g st X n) (le : n ≤ k) where
+      resting : Rests g s n
+      resting = i .rests n h (n-off X s n i o h ab le r)
+
+      kind-is : s .kind n ≡ g .kind n
+      kind-is = ap (λ (z : Given). z .kind n) (i .same)
+
+      flag-of : {f : Named} (π : Named → Bool) → s .fl n ≡ f → π (s .fl n) ≡ π f
+      flag-of π e = ap π e
+
+      not-clean : (π : Named → Bool) → π (s .fl n) ≡ true → π f1 ≡ false → s .fl n ≡ f1 → ⊥
+      not-clean π a b e = clash (sym (ap π e) ∙ a) b
+
+      pending-inside : g .kind n ≡ computed → s .fl n .pending ≡ true → (deps s n ≡ [] → ⊥) → Freshened g st X s n (pendingW fr s n)
+      unfolding pendingW
+      pending-inside kn pd ne =
+          let c = checkW fr s n in
+          let t = c .st in
+          let w = check-inside X n h le (λ m x q. let a = ab m x q in omega arith) apart s i o ne in
+          let n-low : Low g n n → ⊥ = λ p. let a = p .1 in omega arith in
+          let still : t .fl n .pending ≡ true = w .frame .pending n n-low (λ q. clash (ap aComputed kn) (ap aComputed q)) ∙ pd in
+          let wide : Frame g (Low g (suc n)) n s t = frame-wider g (Low g n) (Low g (suc n)) n n s t (λ m p. let a = p .1 in (p .0, omega arith)) (omega arith) (w .frame) in
+          let opened : Open g st X t = open-frame g st X (Low g n) n s t i (w .inside) (w .frame) (λ m x p. let a = ab m x (ap readable (p .0)) in let b = p .1 in omega arith) o in
+          branch (Freshened g st X s n) (c .yes)
+          (λ y. let f = upd-inside X t n (w .inside) opened h ab le r (λ e. clash (sym (ap (λ (z : Named). z .pending) e) ∙ still) refl) (s .kind n) (sym kind-is) in
+          record {
+            inside = f .inside;
+            frame = frame-then g (Low g (suc n)) n s t _ (i .lists) (w .inside .lists) wide (f .frame);
+            clean = f .clean;
+            changed = λ q. not-clean (λ (z : Named). z .pending) pd refl;
+          })
+          (λ y. let rt = w .inside .rests n h (n-off X s n i o h ab le r) in
+          let flag : withPending (t .fl n) false ≡ f1 = cleared (t .fl n) (t .done n) (t .subs n) still (w .answer y) (rt .of-computed kn) in
+          let x = setFl t n (withPending (t .fl n) false) in
+          let ix : Inside g (also X n) x = flags-inside g (also X n) t n (widen g X (also X n) t (λ m z. inl z) (w .inside)) (inr refl) (withPending (t .fl n) false) (λ q. clash q refl) in
+          let now : x .fl n ≡ f1 = up-same (t .fl) n (withPending (t .fl n) false) ∙ flag in
+          let f : Frame g (Low g (suc n)) n t x = frame-flags g (Low g (suc n)) n t x refl refl refl refl refl refl (λ m z. (refl, refl))
+          (λ m z q. up-other (t .fl) n _ m (λ e. z (ap (g .kind) e ∙ kn, omega arith)))
+          (λ m q. up-by (t .fl) n (withPending (t .fl n) false) (λ (z : Named). z ≡ f1) m (λ e. flag) (λ e. q)) in
+          record {
+            inside = let-out g X x n ix (rests-clean g st (x .queue) (x .dep) (x .sub) n (x .fl n) (x .gone n) (x .done n) (x .rest n) (x .subs n) h r now (w .inside .gone-kind n h r) (rt .tail) (rt .few));
+            frame = frame-then g (Low g (suc n)) n s t x (i .lists) (w .inside .lists) wide f;
+            clean = now;
+            changed = λ q. false≢true q;
+          })
+        where
+          apart : (d : ℕ) → d < g .size → Goes g d n → X d → ⊥
+          apart d hd gd x = let q = gd .of-computed kn in let a = gd .lower q in let b = ab d x q in omega arith
+
+          cleared : (f : Named) (links subs : List ℕ) → f .pending ≡ true → f .dirty ≡ false → ComputedFlags f links subs → withPending f false ≡ f1
+          cleared f links subs p q (never e x y) = clash p (ap (λ (z : Named). z .pending) e)
+          cleared f links subs p q (clean e) = clash p (ap (λ (z : Named). z .pending) e)
+          cleared f links subs p q (stale e x) = clash p (ap (λ (z : Named). z .pending) e)
+          cleared f links subs p q (maybe e x) = ap (λ (z : Named). withPending z false) e
+          cleared f links subs p q (dirty e x) = clash (ap (λ (z : Named). z .dirty) e) q
+
+      pub whole-inside : Freshened g st X s n (freshW fr s n)
+      unfolding freshW
+      whole-inside =
+          branch (Freshened g st X s n) (bare (s .fl n)) (λ b. by-bare b (g .kind n) refl)
+          (λ b. branch (Freshened g st X s n) (s .fl n .dirty) (λ d. upd-inside X s n i o h ab le r (not-clean (λ (z : Named). z .dirty) d refl) (s .kind n) (sym kind-is))
+          (λ d. branch (Freshened g st X s n) (s .fl n .pending) (λ p. by-pending p (g .kind n) refl)
+          (λ p. record { inside = i; frame = frame-same g (Low g (suc n)) n s; clean = by-clean b d p (g .kind n) refl; changed = λ q. false≢true q })))
+        where
+          signal-flags : (s .fl n ≡ f1) ⊎ (s .fl n ≡ f17) → (bare (s .fl n) ≡ false) × (s .fl n .pending ≡ false) × (s .fl n .dirty ≡ false → s .fl n ≡ f1)
+          signal-flags (inl e) = (ap bare e, ap (λ (z : Named). z .pending) e, λ q. e)
+          signal-flags (inr e) = (ap bare e, ap (λ (z : Named). z .pending) e, λ q. clash (ap (λ (z : Named). z .dirty) e) q)
+
+          by-bare : bare (s .fl n) ≡ true → (c : Kind) → g .kind n ≡ c → Freshened g st X s n (ans (firstW fr s n) false)
+          by-bare b signal e = clash b (signal-flags (resting .of-signal e) .0)
+          by-bare b computed e = go (resting .of-computed e)
+            where
+              go : ComputedFlags (s .fl n) (s .done n) (s .subs n) → Freshened g st X s n (ans (firstW fr s n) false)
+              go (never x y z) = first-inside X s n i o h ab le e x y (resting .tail)
+              go (clean x) = clash b (ap bare x)
+              go (stale x y) = clash b (ap bare x)
+              go (maybe x y) = clash b (ap bare x)
+              go (dirty x y) = clash b (ap bare x)
+          by-bare b effect e = clash r (ap readable e)
+          by-bare b scope e = clash r (ap readable e)
+
+          by-pending : s .fl n .pending ≡ true → (c : Kind) → g .kind n ≡ c → Freshened g st X s n (pendingW fr s n)
+          by-pending p signal e = clash p (signal-flags (resting .of-signal e) .1)
+          by-pending p computed e = pending-inside e p (λ q. go (append-is-nil (s .done n) (s .rest n) q .0) (resting .of-computed e))
+            where
+              go : s .done n ≡ [] → ComputedFlags (s .fl n) (s .done n) (s .subs n) → ⊥
+              go q (never x y z) = clash p (ap (λ (z : Named). z .pending) x)
+              go q (clean x) = clash p (ap (λ (z : Named). z .pending) x)
+              go q (stale x y) = clash p (ap (λ (z : Named). z .pending) x)
+              go q (maybe x y) = y q
+              go q (dirty x y) = y q
+          by-pending p effect e = clash r (ap readable e)
+          by-pending p scope e = clash r (ap readable e)
+
+          by-clean : bare (s .fl n) ≡ false → s .fl n .dirty ≡ false → s .fl n .pending ≡ false → (c : Kind) → g .kind n ≡ c → s .fl n ≡ f1
+          by-clean b d p signal e = signal-flags (resting .of-signal e) .2 d
+          by-clean b d p computed e = go (resting .of-computed e)
+            where
+              go : ComputedFlags (s .fl n) (s .done n) (s .subs n) → s .fl n ≡ f1
+              go (never x y z) = clash (ap bare x) b
+              go (clean x) = x
+              go (stale x y) = clash (ap (λ (z : Named). z .dirty) x) d
+              go (maybe x y) = clash (ap (λ (z : Named). z .pending) x) p
+              go (dirty x y) = clash (ap (λ (z : Named). z .dirty) x) d
+          by-clean b d p effect e = clash r (ap readable e)
+          by-clean b d p scope e = clash r (ap readable e)
+
+  -- ---- the recursion
+  pub fresh-inside : (k : ℕ) → Freshens g st k (fresh k)
+  unfolding fresh
+  fresh-inside zero X s n i o h r ab lt = absurd (omega arith)
+  fresh-inside (suc k) X s n i o h r ab lt = whole-inside k (fresh k) (fresh-inside k) X s n i o h r ab (omega arith)
