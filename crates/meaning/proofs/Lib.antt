@@ -24,3 +24,4 @@ pub mod Frames
 pub mod Soiling
 pub mod Reading
 pub mod Updating
+pub mod Running
