@@ -25,3 +25,4 @@ pub mod Soiling
 pub mod Reading
 pub mod Updating
 pub mod Running
+pub mod Marking
