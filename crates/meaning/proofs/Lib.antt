@@ -26,3 +26,4 @@ pub mod Reading
 pub mod Updating
 pub mod Running
 pub mod Marking
+pub mod Walking

@@ -36,7 +36,7 @@ module _ (s : St) (m : Marks) (u : ℕ) where
   abbrev marked : ℕ → Named
   marked = up (m .fl) u (withPending (m .fl u) true)
 
-  mark-dirty : (n : ℕ) → mark s m u .fl n .dirty ≡ m .fl n .dirty
+  pub mark-dirty : (n : ℕ) → mark s m u .fl n .dirty ≡ m .fl n .dirty
   mark-dirty n =
       ap (λ (f : Named). f .dirty) (mark-tone s m u n)
       ∙ up-by (m .fl) u (withPending (m .fl u) true) (λ (x : Named). x .dirty ≡ m .fl n .dirty) n (λ q. ap (λ (k : ℕ). m .fl k .dirty) (sym q)) (λ q. refl)
@@ -46,12 +46,12 @@ module _ (s : St) (m : Marks) (u : ℕ) where
       ap (λ (f : Named). f .mutable) (mark-tone s m u n)
       ∙ up-by (m .fl) u (withPending (m .fl u) true) (λ (x : Named). x .mutable ≡ m .fl n .mutable) n (λ q. ap (λ (k : ℕ). m .fl k .mutable) (sym q)) (λ q. refl)
 
-  mark-here : (n : ℕ) → n ≡ u → mark s m u .fl n .pending ≡ true
+  pub mark-here : (n : ℕ) → n ≡ u → mark s m u .fl n .pending ≡ true
   mark-here n q =
       ap (λ (f : Named). f .pending) (mark-tone s m u n)
       ∙ up-by (m .fl) u (withPending (m .fl u) true) (λ (x : Named). x .pending ≡ true) n (λ p. refl) (λ p. absurd (p q))
 
-  mark-there : (n : ℕ) → (n ≡ u → ⊥) → mark s m u .fl n .pending ≡ m .fl n .pending
+  pub mark-there : (n : ℕ) → (n ≡ u → ⊥) → mark s m u .fl n .pending ≡ m .fl n .pending
   mark-there n h = ap (λ (f : Named). f .pending) (mark-tone s m u n ∙ ap tone (up-other (m .fl) u (withPending (m .fl u) true) n h))
 
   mark-more : (n : ℕ) → m .fl n .pending ≡ true → mark s m u .fl n .pending ≡ true
