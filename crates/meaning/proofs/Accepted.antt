@@ -1,122 +1,241 @@
--- Accepted commands that leave well-formed tables, so far: new signal, new computed, batch start, and a batch end that does not flush. Assumes nothing.
+-- From well-formed tables every command leaves well-formed tables and is not stuck. Assumes nothing.
 use mathlib.Core.Path.{_≡_, refl, sym, ap, _∙_, subst}
-use mathlib.Core.Logic.{inl, inr}
+use mathlib.Core.Logic.{_⊎_, inl, inr}
 use mathlib.Core.Bool.{Bool, true, false, not, _&&_, _||_}
 use mathlib.Core.List.{List, [], _∷_}
 use mathlib.Core.Option.{Option, none, some}
-use Prim.Native.Nat.{ℕ, zero, suc, _+_, _<_}
+use Prim.Native.Nat.{ℕ, zero, suc, _+_, _≤_, _<_}
 use native.Mathlib.Omega.{arith}
 use lib.Dec.{leb, ltb}
-use lib.IntN.{ℤ, pos}
-use borrow.Author.Tests.{leb-false, ltb-true, ltb-false, not-false}
-use Rattle.primitive.specs.Values.{value}
+use lib.IntN.{ℤ, pos, negsuc}
+use borrow.Author.Tests.{leb-false, ltb-true, ltb-false, not-true, not-false, eqb-false}
+use Rattle.primitive.specs.declared.values.Value.{Value}
+use Rattle.primitive.specs.Values.{value, same}
 use Rattle.formula.specs.Trees.{Tree, constant, size, nesting, names}
-use Rattle.meaning.specs.State.{St, Kind, signal, computed, readable}
-use Rattle.meaning.specs.Setters.{withLog}
-use Rattle.meaning.specs.Engine.{levelOf, cellsOf}
-use Rattle.meaning.specs.Words.{Command, makeSignal, makeComputed, batchStart, batchEnd, commandOf, treeOf, treeOr, formulaOf}
-use Rattle.meaning.specs.Refusals.{Sight, sightOf, asksOf, isA, allReadable, legalTree, badFormula, tooHigh, noRoom, wrongDepth, table, refusal, reserve, reserveOf, mostLevel, mostDepth}
+use Rattle.formula.specs.Legal.{mostCells, mostNesting}
+use Rattle.meaning.specs.State.{St, Kind, signal, computed, effect, scope, Room, readable, f17, empty}
+use Rattle.meaning.specs.Setters.{withLog, withDepth, withQueue, setFl, setPend}
+use Rattle.meaning.specs.Links.{isNil, dispose}
+use Rattle.meaning.specs.Marks.{isEffect, propagate}
+use Rattle.meaning.specs.Reads.{settle}
+use Rattle.meaning.specs.Engine.{levelOf, cellsOf, run, flushOn, flush, flushAt, store, endAt}
+use Rattle.meaning.specs.Words.{Command, makeSignal, makeComputed, makeEffect, makeScope, setTo, addTo, readOf, disposeOf, batchStart, batchEnd, commandOf, nodeOf, ownerOf, treeOf, treeOr, formulaOf}
+use Rattle.meaning.specs.Refusals.{Sight, sightOf, asksOf, aSignal, anOwner, isA, unknown, wrongOwner, wrongNode, isGone, goneNode, allReadable, legalTree, illegal, badFormula, treeIn, over, tooHigh, full, noRoom, wrongDepth, table, refusal, reserve, reserveOf, mostLevel, mostDepth}
 use Rattle.meaning.specs.WellFormed.{In, WellFormed}
-use Rattle.meaning.specs.Commands.{perform, performAny, answer, command}
-use Rattle.meaning.proofs.Laws.{false≢true, or-left, or-right}
+use Rattle.meaning.specs.Commands.{perform, performAny, answer, command, afterAll}
+use Rattle.meaning.proofs.Laws.{clash, false≢true, either, none-some, branch, or-left, or-right}
+use Rattle.meaning.proofs.Rings.{dispose-ring, settle-ring}
+use Rattle.meaning.proofs.Still.{Given, given, Fixed, Still, drops-still, renews-still}
+use Rattle.meaning.proofs.Flush.{Lasting, run-lasts, flush-empties}
 use Rattle.meaning.proofs.Refused.{NoneHolds, accepted-exactly}
 use Rattle.meaning.proofs.Formulas.{tree-exact}
+use Rattle.meaning.proofs.Emptied.{empty-well-formed}
 use Rattle.meaning.proofs.Batches.{start-well-formed, inner-end-well-formed}
-use Rattle.meaning.proofs.Making.{Fits, signal-well-formed, computed-well-formed}
+use Rattle.meaning.proofs.Inside.{nobody, Static, Inside, static, rest-inside}
+use Rattle.meaning.proofs.Dropping.{aComputed, dispose-inside}
+use Rattle.meaning.proofs.Frames.{others}
+use Rattle.meaning.proofs.Running.{Goes-on, read-inside, flush-inside}
+use Rattle.meaning.proofs.Walking.{store-inside}
+use Rattle.meaning.proofs.Making.{Fits}
+use Rattle.meaning.proofs.Made.{Well, at-rest, signal-well, computed-well, scope-well, effect-well}
 
 and-both : (a b : Bool) → a && b ≡ true → (a ≡ true) × (b ≡ true)
 and-both true b e = (refl, e)
 and-both false b e = false≢true e
 
+-- ---- the depth, and the queue at depth 0
+flush-depth : (q : List ℕ) (s : St) → flushOn s q .depth ≡ s .depth
+unfolding flushOn
+flush-depth [] s = refl
+flush-depth (e ∷ q) s = flush-depth q (run (withQueue s q) e) ∙ ap (λ (l : Lasting). l .depth) (run-lasts (withQueue s q) e)
+
+-- at depth 0 the queue is empty
+abbrev Calm : St → Type 0
+Calm t = t .depth ≡ 0 → t .queue ≡ []
+
+store-calm : (s : St) (n : ℕ) (v : Value) → Calm s → (store s n v .depth ≡ s .depth) × Calm (store s n v)
+unfolding store
+store-calm s n v c =
+    branch (λ (t : St). (t .depth ≡ s .depth) × Calm t) (same (s .pend n) v) (λ e. (refl, c))
+    (λ e. branch (λ (t : St). (t .depth ≡ s .depth) × Calm t) (isNil (s .subs n)) (λ f. (refl, c)) (λ f. go (s .depth) refl))
+  where
+    go : (d : ℕ) → s .depth ≡ d → (flushAt (propagate (setFl (setPend s n v) n f17) n) d .depth ≡ s .depth) × Calm (flushAt (propagate (setFl (setPend s n v) n f17) n) d)
+    go zero e = let q = propagate (setFl (setPend s n v) n f17) n in (flush-depth (q .queue) q, λ z. flush-empties q)
+    go (suc d) e = (refl, λ z. absurd (omega arith))
+
 module _ (s : St) (rows : ℕ) (w : WellFormed s) where
   abbrev v : Sight
   v = sightOf s rows
+
+  abbrev s′ : St
+  s′ = withLog s []
 
   -- the log is no part of the tables
   logless : WellFormed (withLog s [])
   unfolding reserve
   logless = record { lists = w .lists; depends = w .depends; limits = w .limits; by-kind = w .by-kind; queued = w .queued }
 
-  -- ---- what rows 5, 6 and 7 leave
-  room-left : (k : Kind) (t : Tree) (c : Bool) (d : Bool) → leb (s .room .nodes) (s .size) || (c || d) ≡ false → (s .size < s .room .nodes) × (c ≡ false) × (d ≡ false)
-  room-left k t c d e =
-      (leb-false (s .room .nodes) (s .size) (or-left (leb (s .room .nodes) (s .size)) (c || d) e), or-left c d (or-right (leb (s .room .nodes) (s .size)) (c || d) e), or-right c d (or-right (leb (s .room .nodes) (s .size)) (c || d) e))
+  abbrev g : Given
+  g = given s
 
-  signal-fits : (x : ℤ) → noRoom v (makeSignal x) ≡ false → Fits (withLog s []) signal (constant (pos 0))
-  unfolding noRoom asksOf reserve size nesting names
-  signal-fits x e =
-      let l = w .limits in
-      let r = room-left signal (constant (pos 0)) (ltb (s .room .cells) (s .used + 0)) (ltb (s .room .slots) (reserve s + 0)) e in
-      record {
-        room = r .0;
-        cells = ltb-false (s .room .cells) (s .used + 0) (r .1);
-        slots = ltb-false (s .room .slots) (reserve s + 0) (r .2);
-        known = λ m i. absurd i;
-        few = omega arith;
-        shallow = omega arith;
-        level = omega arith;
-      }
+  st : Static (given (withLog s []))
+  st = static (withLog s []) logless
 
-  readable-known : (ns : List ℕ) → allReadable v ns ≡ true → (m : ℕ) → In m ns → (m < s .size) × (readable (s .kind m) ≡ true)
-  unfolding allReadable isA
-  readable-known (n ∷ ns) e m (inl q) = subst (λ (x : ℕ). (x < s .size) × (readable (s .kind x) ≡ true)) (sym q) (go (ltb n (s .size)) refl (and-both (isA v readable (pos n)) (allReadable v ns) e .0))
+  i : Inside (given (withLog s [])) nobody (withLog s [])
+  i = rest-inside (withLog s []) logless
+
+  calm : Calm s
+  calm = w .queued .at-depth-0
+
+  -- what kept the depth and, at depth 0, has an empty queue is at rest again
+  ended : (t : St) → Goes-on g nobody (withLog s []) t → t .depth ≡ s .depth → Calm t → Well (withLog s []) t
+  ended t r d c = record { formed = at-rest g t st (r .inside) c (subst (λ (x : ℕ). x ≤ mostDepth) (sym d) (w .queued .depth-low)); stuck = r .stuck }
+
+  still-ended : (t : St) → Goes-on g nobody (withLog s []) t → Still (withLog s []) t → Well (withLog s []) t
+  still-ended t r p =
+      let q = ap (λ (f : Fixed). f .queue) (p .same) in
+      let d = ap (λ (f : Fixed). f .depth) (p .same) in
+      ended t r d (λ e. q ∙ calm (sym d ∙ e))
+
+  -- ---- row 3: a known node of a kind that the command takes
+  known : (p : Kind → Bool) (n : ℤ) → isA v p n ≡ true → (nodeOf n < s .size) × (p (s .kind (nodeOf n)) ≡ true)
+  unfolding isA
+  known p (pos n) e = go (ltb n (s .size)) refl e
     where
-      go : (b : Bool) → ltb n (s .size) ≡ b → elim b [ true ↦ readable (s .kind n) | false ↦ false ] ≡ true → (n < s .size) × (readable (s .kind n) ≡ true)
+      go : (b : Bool) → ltb n (s .size) ≡ b → elim b [ true ↦ p (s .kind n) | false ↦ false ] ≡ true → (n < s .size) × (p (s .kind n) ≡ true)
       go true h f = (ltb-true n (s .size) h, f)
       go false h f = false≢true f
-  readable-known (n ∷ ns) e m (inr i) = readable-known ns (and-both (isA v readable (pos n)) (allReadable v ns) e .1) m i
+  known p (negsuc n) e = false≢true e
 
-  computed-fits : (cs : List ℤ) → badFormula v (makeComputed cs) ≡ false → tooHigh v (makeComputed cs) ≡ false → noRoom v (makeComputed cs) ≡ false → Fits (withLog s []) computed (formulaOf cs)
-  unfolding badFormula tooHigh noRoom asksOf reserve
-  computed-fits cs a b c = go (treeOf cs) refl a b c
+  -- ---- rows 3 to 7 leave room for a new node
+  owner-fits : (o : ℤ) → wrongOwner v o ≡ false → isGone v o ≡ false → (p : ℕ) → ownerOf o ≡ some p → (p < s .size) × (readable (s .kind p) ≡ false) × (s .gone p ≡ false)
+  owner-fits (pos q) a b p e =
+      let x = known anOwner (pos q) (not-false (isA v anOwner (pos q)) a) in
+      subst (λ (z : ℕ). (z < s .size) × (readable (s .kind z) ≡ false) × (s .gone z ≡ false)) (un e) (x .0, not-true (readable (s .kind q)) (x .1), b)
     where
-      go : (o : Option Tree) → treeOf cs ≡ o → not (legalTree v o) ≡ false → ltb (mostLevel computed) (levelOf (s .level) computed (treeOr o) none) ≡ false
-          → leb (s .room .nodes) (s .size) || (ltb (s .room .cells) (s .used + cellsOf computed (treeOr o)) || ltb (s .room .slots) (reserve s + reserveOf computed false (treeOr o) none)) ≡ false
-          → Fits (withLog s []) computed (treeOr o)
-      go none q a b c = false≢true (sym a)
-      go (some t) q a b c =
-          let x = tree-exact cs t .0 q in
-          let r = room-left computed t (ltb (s .room .cells) (s .used + cellsOf computed t)) (ltb (s .room .slots) (reserve s + reserveOf computed false t none)) c in
-          record {
-            room = r .0;
-            cells = ltb-false (s .room .cells) (s .used + cellsOf computed t) (r .1);
-            slots = ltb-false (s .room .slots) (reserve s + reserveOf computed false t none) (r .2);
-            known = readable-known (names t) (not-false (allReadable v (names t)) a);
-            few = x .few;
-            shallow = x .shallow;
-            level = ltb-false (mostLevel computed) (levelOf (s .level) computed t none) b;
-          }
+      un : {a c : ℕ} → some a ≡ some c → a ≡ c
+      un z = cc
+  owner-fits (negsuc q) a b p e = none-some e
 
-  -- ---- an accepted command is performed, and no row holds of it
-  module _ (ws : List ℤ) (c : Command) (is : commandOf ws ≡ some c) (accepted : command true s rows ws .code ≡ 0) where
-    performed : command true s rows ws .st ≡ perform (withLog s []) c .st
-    unfolding command answer performAny
-    performed = go (refusal true (sightOf s rows) ws) accepted ∙ ap (λ (o : Option Command). performAny (withLog s []) o .st) is
+  readable-known : (ns : List ℕ) → allReadable v ns ≡ true → (m : ℕ) → In m ns → (m < s .size) × (readable (s .kind m) ≡ true)
+  unfolding allReadable
+  readable-known (n ∷ ns) e m (inl q) = subst (λ (x : ℕ). (x < s .size) × (readable (s .kind x) ≡ true)) (sym q) (known readable (pos n) (and-both (isA v readable (pos n)) (allReadable v ns) e .0))
+  readable-known (n ∷ ns) e m (inr j) = readable-known ns (and-both (isA v readable (pos n)) (allReadable v ns) e .1) m j
+
+  -- the formula is legal
+  record Legal (t : Tree) : Type 0 where
+    pub known : (m : ℕ) → In m (names t) → (m < s .size) × (readable (s .kind m) ≡ true)
+    pub few : size t ≤ mostCells
+    pub shallow : nesting t ≤ mostNesting
+
+  legal : (cs : Option (List ℤ)) → illegal v cs ≡ false → Legal (treeIn cs)
+  unfolding size nesting names
+  legal none e = record { known = λ m j. absurd j; few = omega arith; shallow = omega arith }
+  legal (some cs) e = go (treeOf cs) refl e
+    where
+      go : (o : Option Tree) → treeOf cs ≡ o → not (legalTree v o) ≡ false → Legal (treeOr o)
+      go none q a = false≢true (sym a)
+      go (some t) q a = let x = tree-exact cs t .0 q in record { known = readable-known (names t) (not-false (allReadable v (names t)) a); few = x .few; shallow = x .shallow }
+
+  fits : (k : Kind) (cs : Option (List ℤ)) (o : ℤ) → wrongOwner v o ≡ false → isGone v o ≡ false → illegal v cs ≡ false → over v (some k) (treeIn cs) (ownerOf o) ≡ false → full v (some k) (treeIn cs) (ownerOf o) ≡ false
+      → (readable k ≡ true → ownerOf o ≡ none) → ((k ≡ signal) ⊎ (k ≡ scope) → names (treeIn cs) ≡ []) → Fits (withLog s []) k (treeIn cs) (ownerOf o)
+  unfolding reserve
+  fits k cs o a b c d e un nm =
+      let l = legal cs c in
+      let t = treeIn cs in
+      let x = leb (s .room .nodes) (s .size) in
+      let y = ltb (s .room .cells) (s .used + cellsOf k t) in
+      let z = ltb (s .room .slots) (reserve s + reserveOf k false t (ownerOf o)) in
+      record {
+        room = leb-false (s .room .nodes) (s .size) (or-left x (y || z) e);
+        cells = ltb-false (s .room .cells) (s .used + cellsOf k t) (or-left y z (or-right x (y || z) e));
+        slots = ltb-false (s .room .slots) (reserve s + reserveOf k false t (ownerOf o)) (or-right y z (or-right x (y || z) e));
+        known = l .known;
+        few = l .few;
+        shallow = l .shallow;
+        level = ltb-false (mostLevel k) (levelOf (s .level) k t (ownerOf o)) d;
+        owner = owner-fits o a b;
+        unowned = un;
+        nameless = nm;
+      }
+
+  -- ---- command by command, where no row holds
+  taken : (p : Kind → Bool) (n : ℤ) → not (isA v p n) || false ≡ false → (nodeOf n < s .size) × (p (s .kind (nodeOf n)) ≡ true)
+  taken p n e = known p n (not-false (isA v p n) (or-left (not (isA v p n)) false e))
+
+  is-signal : (k : Kind) → aSignal k ≡ true → k ≡ signal
+  is-signal signal e = refl
+  is-signal computed e = false≢true e
+  is-signal effect e = false≢true e
+  is-signal scope e = false≢true e
+
+  stored : (n : ℕ) (x : Value) → (n < s .size) × (aSignal (s .kind n) ≡ true) → Well (withLog s []) (store (withLog s []) n x)
+  stored n x k = let c = store-calm (withLog s []) n x calm in ended _ (store-inside g st (withLog s []) n x i (k .0) (is-signal (s .kind n) (k .1))) (c .0) (c .1)
+
+  end-well : (d : ℕ) → s .depth ≡ d → (d ≡ 0 → ⊥) → Well (withLog s []) (endAt (withLog s []) d)
+  end-well zero e h = absurd (h refl)
+  end-well (suc zero) e h =
+      let t = withDepth (withLog s []) 0 in
+      let r = flush-inside g st (s .queue) t (others g nobody (withLog s []) i (s .cycle) (s .sto) (s .pend) 0 []) refl in
+      let d = flush-depth (s .queue) t in
+      record { formed = at-rest g (flush t) st (r .inside) (λ z. flush-empties t) (subst (λ (x : ℕ). x ≤ mostDepth) (sym d) (omega arith)); stuck = r .stuck }
+  end-well (suc (suc d)) e h = record { formed = subst (λ (x : ℕ). WellFormed (endAt (withLog s []) x)) e (inner-end-well-formed (withLog s []) d e logless); stuck = refl }
+
+  perform-well : (c : Command) → NoneHolds (table true v (some c)) → Well (withLog s []) (perform (withLog s []) c .st)
+  unfolding table perform wrongNode goneNode badFormula tooHigh noRoom wrongDepth asksOf names
+  perform-well (makeSignal x) h = signal-well (withLog s []) logless (value x) (fits signal none (negsuc 0) refl refl refl (h 5) (h 6) (λ r. refl) (λ r. refl))
+  perform-well (makeComputed cs) h = computed-well (withLog s []) logless (formulaOf cs) (fits computed (some cs) (negsuc 0) refl refl (h 4) (h 5) (h 6) (λ r. refl) (λ r. not-plain r))
+    where
+      not-plain : (computed ≡ signal) ⊎ (computed ≡ scope) → names (formulaOf cs) ≡ []
+      not-plain (inl e) = false≢true (sym (ap aComputed e))
+      not-plain (inr e) = false≢true (sym (ap aComputed e))
+  perform-well (makeEffect o cs) h = effect-well (withLog s []) logless (ownerOf o) (formulaOf cs) (fits effect (some cs) o (h 2) (h 3) (h 4) (h 5) (h 6) (λ r. false≢true r) (λ r. not-plain r))
+    where
+      not-plain : (effect ≡ signal) ⊎ (effect ≡ scope) → names (formulaOf cs) ≡ []
+      not-plain (inl e) = false≢true (sym (ap isEffect e))
+      not-plain (inr e) = false≢true (sym (ap isEffect e))
+  perform-well (makeScope o) h = scope-well (withLog s []) logless (ownerOf o) (fits scope none o (h 2) (h 3) refl (h 5) (h 6) (λ r. false≢true r) (λ r. refl))
+  perform-well (setTo n x) h = stored (nodeOf n) (value x) (taken aSignal n (h 2))
+  perform-well (addTo n d) h = stored (nodeOf n) _ (taken aSignal n (h 2))
+  perform-well (readOf n) h =
+      let k = taken readable n (h 2) in
+      still-ended _ (read-inside g st (withLog s []) (nodeOf n) i (k .0) (k .1)) (settle-ring Still renews-still (withLog s []) (nodeOf n))
+  perform-well (disposeOf n) h =
+      let k = taken anOwner n (h 2) in
+      let r = dispose-inside g st (withLog s []) (nodeOf n) i (k .0) (not-true (readable (s .kind (nodeOf n))) (k .1)) in
+      still-ended _ (record { inside = r .0; stuck = r .1 }) (dispose-ring Still drops-still (withLog s []) (nodeOf n))
+  perform-well batchStart h = record { formed = start-well-formed (withLog s []) (leb-false mostDepth (s .depth) (h 7)) logless; stuck = refl }
+  perform-well batchEnd h = end-well (s .depth) refl (eqb-false (s .depth) 0 (h 7))
+
+  -- ---- a command that is accepted is performed, and no row holds of it
+  any-well : (c : Option Command) → NoneHolds (table true v c) → Well s (performAny (withLog s []) c .st)
+  unfolding performAny table unknown
+  any-well none h = false≢true (sym (h 1))
+  any-well (some c) h = let r = perform-well c h in record { formed = r .formed; stuck = r .stuck }
+
+-- from well-formed tables: well formed after it, and not stuck unless the state was so before
+pub command-kept : (well : Bool) (s : St) (rows : ℕ) (ws : List ℤ) → WellFormed s → Well s (command well s rows ws .st)
+unfolding command answer table
+command-kept well s rows ws w = go (refusal well (sightOf s rows) ws) (accepted-exactly well s rows ws .0)
+  where
+    go : (r : ℕ) → (answer r s ws .code ≡ 0 → NoneHolds (table well (sightOf s rows) (commandOf ws))) → Well s (answer r s ws .st)
+    go zero h = any-well s rows w (commandOf ws) (rightly well (h refl))
       where
-        go : (r : ℕ) → answer r s ws .code ≡ 0 → answer r s ws .st ≡ performAny (withLog s []) (commandOf ws) .st
-        go zero e = refl
-        go (suc r) e = absurd (omega arith)
+        rightly : (b : Bool) → NoneHolds (table b (sightOf s rows) (commandOf ws)) → NoneHolds (table true (sightOf s rows) (commandOf ws))
+        rightly true k = k
+        rightly false k = false≢true (sym (k 0))
+    go (suc r) h = record { formed = w; stuck = refl }
 
-    none-holds : NoneHolds (table true v (some c))
-    none-holds = subst (λ (o : Option Command). NoneHolds (table true v o)) is (accepted-exactly true s rows ws .0 accepted)
+-- and so after any commands
+pub script-kept : (rows : ℕ) (cs : List (List ℤ)) (s : St) → WellFormed s → Well s (afterAll s rows cs)
+unfolding afterAll
+script-kept rows [] s w = record { formed = w; stuck = refl }
+script-kept rows (c ∷ cs) s w =
+    let a = command-kept true s rows c w in
+    let b = script-kept rows cs (command true s rows c .st) (a .formed) in
+    record { formed = b .formed; stuck = b .stuck ∙ a .stuck }
 
-  pub signal-accepted : (ws : List ℤ) (x : ℤ) → commandOf ws ≡ some (makeSignal x) → command true s rows ws .code ≡ 0 → WellFormed (command true s rows ws .st)
-  unfolding table perform
-  signal-accepted ws x is e =
-      subst WellFormed (sym (performed ws (makeSignal x) is e))
-      (signal-well-formed (withLog s []) (value x) logless (signal-fits x (none-holds ws (makeSignal x) is e 6)))
-
-  pub computed-accepted : (ws cs : List ℤ) → commandOf ws ≡ some (makeComputed cs) → command true s rows ws .code ≡ 0 → WellFormed (command true s rows ws .st)
-  unfolding table perform
-  computed-accepted ws cs is e =
-      let h = none-holds ws (makeComputed cs) is e in
-      subst WellFormed (sym (performed ws (makeComputed cs) is e)) (computed-well-formed (withLog s []) (formulaOf cs) logless (computed-fits cs (h 4) (h 5) (h 6)))
-
-  pub start-accepted : (ws : List ℤ) → commandOf ws ≡ some batchStart → command true s rows ws .code ≡ 0 → WellFormed (command true s rows ws .st)
-  unfolding table perform wrongDepth
-  start-accepted ws is e =
-      subst WellFormed (sym (performed ws batchStart is e)) (start-well-formed (withLog s []) (leb-false mostDepth (s .depth) (none-holds ws batchStart is e 7)) logless)
-
-  pub inner-end-accepted : (ws : List ℤ) (d : ℕ) → s .depth ≡ suc (suc d) → commandOf ws ≡ some batchEnd → command true s rows ws .code ≡ 0 → WellFormed (command true s rows ws .st)
-  unfolding perform
-  inner-end-accepted ws d q is e = subst WellFormed (sym (performed ws batchEnd is e)) (inner-end-well-formed (withLog s []) d q logless)
+-- no history from empty tables is ever stuck
+pub never-stuck : (r : Room) (rows : ℕ) (cs : List (List ℤ)) → WellFormed (afterAll (empty r) rows cs) × (afterAll (empty r) rows cs .stuck ≡ false)
+unfolding empty
+never-stuck r rows cs = let a = script-kept rows cs (empty r) (empty-well-formed r) in (a .formed, a .stuck)

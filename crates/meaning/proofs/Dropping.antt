@@ -137,7 +137,7 @@ module _ (g : Given) (X : Set) (s : St) (n : ℕ) (i : Inside g X s) (xn : X n) 
 
   less-reserved : (m : ℕ) → reserveOf (g .kind m) (up (s .gone) n true m) (g .form m) (g .owner m) ≤ reserveOf (g .kind m) (s .gone m) (g .form m) (g .owner m)
   less-reserved m = up-by (s .gone) n true (λ (b : Bool). reserveOf (g .kind m) b (g .form m) (g .owner m) ≤ reserveOf (g .kind m) (s .gone m) (g .form m) (g .owner m)) m
-    (λ q. least (g .kind m) (s .gone m) (g .form m) (g .owner m)) (λ q. omega arith)
+      (λ q. least (g .kind m) (s .gone m) (g .form m) (g .owner m)) (λ q. omega arith)
     where
       least : (k : Kind) (b : Bool) (t : Tree) (p : Option ℕ) → reserveOf k true t p ≤ reserveOf k b t p
       least signal b t p = omega arith

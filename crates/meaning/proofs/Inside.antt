@@ -396,5 +396,5 @@ module _ (g : Given) (st : Static g) where
 
   pub never-back : (d u : ℕ) → d < g .size → Goes g d u → Under g d u → ⊥
   never-back d u h l p = either (readable (g .kind d))
-    (λ e. let x = l .lower e in either (readable (g .kind u)) (λ f. let y = p .low f e in omega arith) (λ f. clash e (p .high f .0)))
-    (λ e. let x = st .owner-lower d u h (l .owned e) in let y = p .high (owner-owns d u l e) .1 in omega arith)
+      (λ e. let x = l .lower e in either (readable (g .kind u)) (λ f. let y = p .low f e in omega arith) (λ f. clash e (p .high f .0)))
+      (λ e. let x = st .owner-lower d u h (l .owned e) in let y = p .high (owner-owns d u l e) .1 in omega arith)

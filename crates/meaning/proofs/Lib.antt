@@ -14,7 +14,6 @@ pub mod Formulas
 pub mod Freed
 pub mod Batches
 pub mod Making
-pub mod Accepted
 pub mod Members
 pub mod Inside
 pub mod Dropping
@@ -27,3 +26,5 @@ pub mod Updating
 pub mod Running
 pub mod Marking
 pub mod Walking
+pub mod Made
+pub mod Accepted

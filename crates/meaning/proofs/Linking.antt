@@ -85,7 +85,7 @@ module _ (g : Given) (X : Set) (s : St) (d u v l : ℕ) (ls : List ℕ) (i : Ins
   subs-less : (k w : ℕ) → In k (t .subs w) → In k (s .subs w) ⊎ ((k ≡ l) × (w ≡ d))
   unfolding insert
   subs-less k w = up-by (s .subs) d (s .subs d ++ l ∷ []) (λ (x : List ℕ). In k x → In k (s .subs w) ⊎ ((k ≡ l) × (w ≡ d))) w
-    (λ q j. in-cases k (s .subs d) (l ∷ []) j (λ a. inl (subst (λ (z : ℕ). In k (s .subs z)) (sym q) a)) (λ a. inr (one a, q))) (λ q j. inl j)
+      (λ q j. in-cases k (s .subs d) (l ∷ []) j (λ a. inl (subst (λ (z : ℕ). In k (s .subs z)) (sym q) a)) (λ a. inr (one a, q))) (λ q j. inl j)
     where
       one : In k (l ∷ []) → k ≡ l
       one (inl q) = q

@@ -153,10 +153,13 @@ module _ (g : Given) (st : Static g) (s : St) (i : Inside g nobody s) where
       let lv = i .lists .subs-live (x .0) n (subst (In (x .0)) (sym (x .1)) (inl refl)) in
       let lo = st .owner-lower n o (w .low) e in
       let lw = w .low in
-      let go : Goes g n o = subst (λ (z : ℕ). Goes g n z) (x .2) (subst (λ (z : ℕ). Goes g z (s .sub (x .0))) (lv .1) (i .goes (x .0) (lv .0))) in
-      (lo, either (s .gone o)
-      (λ a. absurd (gone-none o (omega arith) a (x .0) (subst (λ (z : ℕ). In (x .0) (deps s z)) (x .2) (i .lists .live-in-deps (x .0) (lv .0)))))
-      (λ a. a), owner-owns g st n o go (ap readable (w .is)))
+      let go : Goes g n o = subst (λ (z : ℕ). Goes g n z) (x .2) (subst (λ (z : ℕ). Goes g z (s .sub (x .0))) (lv .1) (i .goes (x .0) (lv .0))) in (
+        lo,
+        either (s .gone o)
+            (λ a. absurd (gone-none o (omega arith) a (x .0) (subst (λ (z : ℕ). In (x .0) (deps s z)) (x .2) (i .lists .live-in-deps (x .0) (lv .0)))))
+            (λ a. a),
+        owner-owns g st n o go (ap readable (w .is)),
+      )
     where
       gone-none : (o : ℕ) → o < g .size → s .gone o ≡ true → (l : ℕ) → In l (deps s o) → ⊥
       gone-none o h a l j = in-cases l (s .done o) (s .rest o) j (λ z. nil-none (s .done o) l (resting o h .bare a .0) z) (λ z. nil-none (s .rest o) l (resting o h .tail) z)
@@ -352,9 +355,9 @@ module _ (g : Given) (st : Static g) (s : St) (i : Inside g nobody s) where
       -- owners are pushed, u is pending
       fl-in : (n : ℕ) → In n c → ((n ≡ u) × (calm c fl′ n ≡ f32)) ⊎ (calm c fl′ n ≡ f0)
       fl-in n j = either (eqb n u)
-        (λ e. let p = eqb-true n u e in
-        inl (p, calm-in c fl′ n c-once j ∙ ap (λ (z : Named). withWatching z false) (ap fl′ p ∙ up-same (s .fl) u marked ∙ ap (λ (z : Named). withPending z true) (w .awake))))
-        (λ e. inr (calm-in c fl′ n c-once j ∙ ap (λ (z : Named). withWatching z false) (up-other (s .fl) u marked n (eqb-false n u e) ∙ c-in n j .awake)))
+          (λ e. let p = eqb-true n u e in
+          inl (p, calm-in c fl′ n c-once j ∙ ap (λ (z : Named). withWatching z false) (ap fl′ p ∙ up-same (s .fl) u marked ∙ ap (λ (z : Named). withPending z true) (w .awake))))
+          (λ e. inr (calm-in c fl′ n c-once j ∙ ap (λ (z : Named). withWatching z false) (up-other (s .fl) u marked n (eqb-false n u e) ∙ c-in n j .awake)))
 
       rests-in : (n : ℕ) → In n c → AtRest g q (s .dep) (s .sub) n (calm c fl′ n) (s .gone n) (s .done n) (s .rest n) (s .subs n)
       rests-in n j =

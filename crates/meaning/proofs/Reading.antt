@@ -123,7 +123,7 @@ module _ (g : Given) (st : Static g) where
 
         spent : spends g t u ≡ spends g s u
         spent = ap (λ (b : Bool). reserveOf (g .kind u) b (g .form u) (g .owner u))
-          (either (readable (g .kind u)) (λ r. j .gone-kind u hu r ∙ sym (d .inside .gone-kind u hu r)) (λ r. f .gone u r))
+            (either (readable (g .kind u)) (λ r. j .gone-kind u hu r ∙ sym (d .inside .gone-kind u hu r)) (λ r. f .gone u r))
 
     pub later : (i j : ℕ) (s : St) → i ≤ j → During X u s₀ i s → During X u s₀ j s
     later i j s le d = let a = d .few in record { inside = d .inside; frame = d .frame; few = omega arith; left = d .left; spare = d .spare; tail = d .tail; known = d .known; pays = d .pays }

@@ -69,26 +69,26 @@ module _ (g : Given) (st : Static g) where
           let c = reserve-at computed (s .gone n) n s e refl in
           omega arith
       go effect e = either (s .gone n)
-        (λ q. let a = owner-links-own (g .kind n) (s .subs n) (ap readable e) in
-        let b = ap (λ (x : List ℕ). length (readLinks (g .kind) (s .dep) x)) (links ∙ w .bare q .0) in
-        let c = ap length (w .bare q .1) in
-        omega arith)
-        (λ q. let a = owner-links-own (g .kind n) (s .subs n) (ap readable e) in
-        let b = few in
-        let c = reserve-at effect false n s e q in
-        let f = owner-links-few s n (ap readable e) q w in
-        omega arith)
+          (λ q. let a = owner-links-own (g .kind n) (s .subs n) (ap readable e) in
+          let b = ap (λ (x : List ℕ). length (readLinks (g .kind) (s .dep) x)) (links ∙ w .bare q .0) in
+          let c = ap length (w .bare q .1) in
+          omega arith)
+          (λ q. let a = owner-links-own (g .kind n) (s .subs n) (ap readable e) in
+          let b = few in
+          let c = reserve-at effect false n s e q in
+          let f = owner-links-few s n (ap readable e) q w in
+          omega arith)
       go scope e = either (s .gone n)
-        (λ q. let a = owner-links-own (g .kind n) (s .subs n) (ap readable e) in
-        let b = ap (λ (x : List ℕ). length (readLinks (g .kind) (s .dep) x)) (links ∙ w .bare q .0) in
-        let c = ap length (w .bare q .1) in
-        omega arith)
-        (λ q. let a = owner-links-own (g .kind n) (s .subs n) (ap readable e) in
-        let b = few in
-        let c = ap length (st .nameless n h (inr e)) in
-        let x = reserve-at scope false n s e q in
-        let f = owner-links-few s n (ap readable e) q w in
-        omega arith)
+          (λ q. let a = owner-links-own (g .kind n) (s .subs n) (ap readable e) in
+          let b = ap (λ (x : List ℕ). length (readLinks (g .kind) (s .dep) x)) (links ∙ w .bare q .0) in
+          let c = ap length (w .bare q .1) in
+          omega arith)
+          (λ q. let a = owner-links-own (g .kind n) (s .subs n) (ap readable e) in
+          let b = few in
+          let c = ap length (st .nameless n h (inr e)) in
+          let x = reserve-at scope false n s e q in
+          let f = owner-links-few s n (ap readable e) q w in
+          omega arith)
 
   -- ---- where the live links are
   abbrev bill : St → ℕ → List ℕ
