@@ -71,7 +71,7 @@ module _ (s : St) (rows : ℕ) (w : WellFormed s) where
   s′ = withLog s []
 
   -- the log is no part of the tables
-  logless : WellFormed (withLog s [])
+  pub logless : WellFormed (withLog s [])
   unfolding reserve
   logless = record { lists = w .lists; depends = w .depends; limits = w .limits; by-kind = w .by-kind; queued = w .queued }
 
@@ -160,10 +160,10 @@ module _ (s : St) (rows : ℕ) (w : WellFormed s) where
       }
 
   -- ---- command by command, where no row holds
-  taken : (p : Kind → Bool) (n : ℤ) → not (isA v p n) || false ≡ false → (nodeOf n < s .size) × (p (s .kind (nodeOf n)) ≡ true)
+  pub taken : (p : Kind → Bool) (n : ℤ) → not (isA v p n) || false ≡ false → (nodeOf n < s .size) × (p (s .kind (nodeOf n)) ≡ true)
   taken p n e = known p n (not-false (isA v p n) (or-left (not (isA v p n)) false e))
 
-  is-signal : (k : Kind) → aSignal k ≡ true → k ≡ signal
+  pub is-signal : (k : Kind) → aSignal k ≡ true → k ≡ signal
   is-signal signal e = refl
   is-signal computed e = false≢true e
   is-signal effect e = false≢true e

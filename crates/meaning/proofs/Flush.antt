@@ -52,7 +52,7 @@ pub flush-empties : (s : St) → flush s .queue ≡ []
 flush-empties s = flushOn-empties (s .queue) s refl
 
 -- ---- what a run logs: nothing, or one row of its own
-abbrev Logs : St → ℕ → St → Type 0
+abbrev pub Logs : St → ℕ → St → Type 0
 Logs s e t = (t .log ≡ s .log) ⊎ ((r : Row) × (r .who ≡ e) × (t .log ≡ s .log ++ r ∷ []))
 
 log-still : (s t : St) → Still s t → t .log ≡ s .log
@@ -88,7 +88,7 @@ pub data Ran : List Row → List ℕ → Type 0 where
   quiet : {rs : List Row} {e : ℕ} {q : List ℕ} → Ran rs q → Ran rs (e ∷ q)
   ran : {r : Row} {rs : List Row} {e : ℕ} {q : List ℕ} → r .who ≡ e → Ran rs q → Ran (r ∷ rs) (e ∷ q)
 
-abbrev RanIn : St → St → List ℕ → Type 0
+abbrev pub RanIn : St → St → List ℕ → Type 0
 RanIn s t q = (rs : List Row) × (t .log ≡ s .log ++ rs) × Ran rs q
 
 pub flush-runs : (q : List ℕ) (s : St) → RanIn s (flushOn s q) q
@@ -112,14 +112,14 @@ unfoldable pub whos : List Row → List ℕ
 whos [] = []
 whos (r ∷ rs) = r .who ∷ whos rs
 
-ran-in : {rs : List Row} {q : List ℕ} (e : ℕ) → Ran rs q → In e (whos rs) → In e q
+pub ran-in : {rs : List Row} {q : List ℕ} (e : ℕ) → Ran rs q → In e (whos rs) → In e q
 unfolding whos
 ran-in e end i = i
 ran-in e (quiet r) i = inr (ran-in e r i)
 ran-in e (ran p r) (inl z) = inl (z ∙ p)
 ran-in e (ran p r) (inr i) = inr (ran-in e r i)
 
-ran-once : {rs : List Row} {q : List ℕ} → Ran rs q → Once q → Once (whos rs)
+pub ran-once : {rs : List Row} {q : List ℕ} → Ran rs q → Once q → Once (whos rs)
 unfolding whos
 ran-once end o = tt
 ran-once (quiet r) o = ran-once r (o .1)

@@ -15,12 +15,12 @@ use Rattle.meaning.specs.Setters.{withLog, withDepth, setFl, setPend}
 use Rattle.meaning.specs.Links.{isNil, link}
 use Rattle.meaning.specs.Marks.{propagate}
 use Rattle.meaning.specs.Reads.{evaluate}
-use Rattle.meaning.specs.Engine.{logged, flushOn, flushAt, store, node, owned, newSignal, newComputed, newScope, newEffect, endAt}
+use Rattle.meaning.specs.Engine.{logged, run, flushOn, flushAt, store, node, owned, newSignal, newComputed, newScope, newEffect, endAt}
 use Rattle.meaning.specs.Words.{Command, makeSignal, makeComputed, makeEffect, makeScope, setTo, addTo, readOf, disposeOf, batchStart, batchEnd, commandOf, nodeOf, ownerOf, formulaOf}
 use Rattle.meaning.specs.Refusals.{total, sightOf, refusal}
 use Rattle.meaning.specs.Commands.{perform, performAny, answer, command}
 use Rattle.meaning.proofs.Laws.{branch, up-other}
-use Rattle.meaning.proofs.Rings.{Drops, Renews, Runs, weaker-drops, weaker-renews, dispose-ring, settle-ring, evaluate-ring, flush-ring}
+use Rattle.meaning.proofs.Rings.{Drops, Renews, Runs, weaker-drops, weaker-renews, dispose-ring, settle-ring, evaluate-ring, run-ring, flush-ring}
 use Rattle.meaning.proofs.Still.{Given, given, Fixed, Still, link-still, drops-still, renews-still}
 
 -- ---- what only the making of a node touches; and gone is for good
@@ -48,6 +48,9 @@ renews = weaker-renews Still Keeps still-keeps keeps-then renews-still
 
 runs : Runs Keeps
 runs = record { renews = renews; logs = λ s l. record { still = refl; gone = λ n e. e } }
+
+pub run-keeps : (s : St) (e : ℕ) → Keeps s (run s e)
+run-keeps = run-ring Keeps runs
 
 flushOn-keeps : (q : List ℕ) (s : St) → Keeps s (flushOn s q)
 flushOn-keeps = flush-ring Keeps runs (λ s q. record { still = refl; gone = λ n e. e })

@@ -28,3 +28,4 @@ pub mod Marking
 pub mod Walking
 pub mod Made
 pub mod Accepted
+pub mod Rows

@@ -17,7 +17,7 @@ use Rattle.meaning.specs.Marks.{Marks, marks, marksOf, withMarks, halt, 
 use Rattle.meaning.specs.Refusals.{total}
 use Rattle.meaning.specs.WellFormed.{In, Once, readLinks, ComputedFlags, never, clean, stale, maybe, dirty, EffectFlags, watching, pushed, pending, dirty as soiled}
 use Rattle.meaning.proofs.Laws.{clash, false≢true, either, branch, none-some, or-left, or-right, up-same, up-other, up-by, in-left, in-right, in-cases}
-use Rattle.meaning.proofs.Members.{nil-none, once-both, most-below, gather, gather-length, gather-in, gather-once, total-least, total-spare, reads-in}
+use Rattle.meaning.proofs.Members.{nil-none, in-or-not, once-both, most-below, gather, gather-length, gather-in, gather-once, total-least, total-spare, reads-in}
 use Rattle.meaning.proofs.Still.{Given, given}
 use Rattle.meaning.proofs.Inside.{Set, nobody, also, Static, Goes, AtRest, Rests, Slots, Inside, widen, let-out, owner-owns}
 use Rattle.meaning.proofs.Dropping.{aComputed, flags-inside}
@@ -61,18 +61,6 @@ calm-in (e ∷ c) f n o (inl q) =
 calm-in (e ∷ c) f n o (inr i) =
     calm-in c (up f e (withWatching (f e) false)) n (o .1) i
     ∙ ap (λ (z : Named). withWatching z false) (up-other f e (withWatching (f e) false) n (λ q. o .0 (subst (λ (z : ℕ). In z c) q i)))
-
-in-or-not : (n : ℕ) (c : List ℕ) → In n c ⊎ (In n c → ⊥)
-in-or-not n [] = inr (λ i. i)
-in-or-not n (x ∷ c) = either (eqb n x) (λ e. inl (inl (eqb-true n x e))) (λ e. go (eqb-false n x e) (in-or-not n c))
-  where
-    go : (n ≡ x → ⊥) → In n c ⊎ (In n c → ⊥) → In n (x ∷ c) ⊎ (In n (x ∷ c) → ⊥)
-    go h (inl i) = inl (inr i)
-    go h (inr f) = inr (neither h f)
-      where
-        neither : (n ≡ x → ⊥) → (In n c → ⊥) → In n (x ∷ c) → ⊥
-        neither h f (inl e) = h e
-        neither h f (inr i) = f i
 
 pub stuck-inside : (g : Given) (X : Set) (s : St) (b : Bool) → Inside g X s → Inside g X (withStuck s b)
 stuck-inside g X s b i = record {

@@ -99,6 +99,19 @@ pub append-is-nil : (xs ys : List ℕ) → xs ++ ys ≡ [] → (xs ≡ []) × (y
 append-is-nil [] ys e = (refl, e)
 append-is-nil (x ∷ xs) ys e = let z : _≡_ {A = ℕ} (length (x ∷ (xs ++ ys))) 0 = ap length e in absurd (omega arith)
 
+-- ---- a member or not
+pub in-or-not : (n : ℕ) (c : List ℕ) → In n c ⊎ (In n c → ⊥)
+in-or-not n [] = inr (λ i. i)
+in-or-not n (x ∷ c) = either (eqb n x) (λ e. inl (inl (eqb-true n x e))) (λ e. go (eqb-false n x e) (in-or-not n c))
+  where
+    go : (n ≡ x → ⊥) → In n c ⊎ (In n c → ⊥) → In n (x ∷ c) ⊎ (In n (x ∷ c) → ⊥)
+    go h (inl i) = inl (inr i)
+    go h (inr f) = inr (neither h f)
+      where
+        neither : (n ≡ x → ⊥) → (In n c → ⊥) → In n (x ∷ c) → ⊥
+        neither h f (inl e) = h e
+        neither h f (inr i) = f i
+
 -- ---- once
 pub once-both : (xs ys : List ℕ) → Once xs → Once ys → ((x : ℕ) → In x xs → In x ys → ⊥) → Once (xs ++ ys)
 once-both [] ys a b h = b
@@ -188,6 +201,19 @@ total-spare f g (suc n) u k l e h =
     let a : total f n + k ≤ total g n = total-spare f g n u k (omega (arith, p)) e (λ m j. h m (omega arith)) in
     let b = h n (omega arith) in
     omega arith)
+
+-- different places where there is something
+pub most-marked : (c : ℕ → ℕ) (n : ℕ) (xs : List ℕ) → Once xs → ((x : ℕ) → In x xs → (x < n) × (1 ≤ c x)) → length xs ≤ total c n
+unfolding total
+most-marked c zero xs o h = let e = ap length (none-nil xs (λ x i. let a = h x i .0 in absurd (omega arith))) in omega arith
+most-marked c (suc n) xs o h =
+    let a = once-less n xs o in
+    let b = most-marked c n (remove n xs) (remove-once n xs o) (λ x i. let r = remove-in x n xs i in let p = h x (r .0) in let u = p .0 in let q = r .1 in (omega (arith, q), p .1)) in
+    go a b (in-or-not n xs)
+  where
+    go : length xs ≤ suc (length (remove n xs)) → length (remove n xs) ≤ total c n → In n xs ⊎ (In n xs → ⊥) → length xs ≤ total c n + c n
+    go a b (inl i) = let d = h n i .1 in omega arith
+    go a b (inr f) = let e = ap length (remove-absent n xs f) in omega arith
 
 -- ---- the read links of a list
 module _ (kind : ℕ → Kind) (dep : ℕ → ℕ) where

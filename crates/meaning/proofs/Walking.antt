@@ -181,7 +181,7 @@ module _ (g : Given) (st : Static g) (s : St) (n : ℕ) (v : Value) (i : Inside 
       } in
       let-out g nobody written n it w
 
-  i-propagated : Goes-on g nobody s (propagate written n)
+  pub i-propagated : Goes-on g nobody s (propagate written n)
   i-propagated =
       let w = propagate-inside g st written n i-written h (ap readable kn) (ap unclean (up-same (s .fl) n f17)) in
       record { inside = w .inside; stuck = w .stuck }
