@@ -11,19 +11,19 @@ use lib.IntN.{ℤ, pos, negsuc}
 use borrow.Author.Tests.{leb-false, ltb-true, ltb-false, not-true, not-false, eqb-false}
 use Rattle.primitive.specs.declared.values.Value.{Value}
 use Rattle.primitive.specs.Values.{value, same}
-use Rattle.formula.specs.Trees.{Tree, constant, size, nesting, names}
+use Rattle.formula.specs.Trees.{Tree, size, nesting, names}
 use Rattle.formula.specs.Legal.{mostCells, mostNesting}
 use Rattle.meaning.specs.State.{St, Kind, signal, computed, effect, scope, Room, readable, f17, empty}
 use Rattle.meaning.specs.Setters.{withLog, withDepth, withQueue, setFl, setPend}
-use Rattle.meaning.specs.Links.{isNil, dispose}
+use Rattle.meaning.specs.Links.{isNil}
 use Rattle.meaning.specs.Marks.{isEffect, propagate}
-use Rattle.meaning.specs.Reads.{settle}
 use Rattle.meaning.specs.Engine.{levelOf, cellsOf, run, flushOn, flush, flushAt, store, endAt}
 use Rattle.meaning.specs.Words.{Command, makeSignal, makeComputed, makeEffect, makeScope, setTo, addTo, readOf, disposeOf, batchStart, batchEnd, commandOf, nodeOf, ownerOf, treeOf, treeOr, formulaOf}
-use Rattle.meaning.specs.Refusals.{Sight, sightOf, asksOf, aSignal, anOwner, isA, unknown, wrongOwner, wrongNode, isGone, goneNode, allReadable, legalTree, illegal, badFormula, treeIn, over, tooHigh, full, noRoom, wrongDepth, table, refusal, reserve, reserveOf, mostLevel, mostDepth}
+use Rattle.meaning.specs.Reserve.{reserve, reserveOf}
+use Rattle.meaning.specs.Refusals.{Sight, sightOf, asksOf, aSignal, anOwner, isA, unknown, wrongOwner, wrongNode, isGone, goneNode, allReadable, legalTree, illegal, badFormula, treeIn, over, tooHigh, full, noRoom, wrongDepth, table, refusal, mostLevel, mostDepth}
 use Rattle.meaning.specs.WellFormed.{In, WellFormed}
 use Rattle.meaning.specs.Commands.{perform, performAny, answer, command, afterAll}
-use Rattle.meaning.proofs.Laws.{clash, false≢true, either, none-some, branch, or-left, or-right}
+use Rattle.meaning.proofs.Laws.{false≢true, none-some, branch, or-left, or-right}
 use Rattle.meaning.proofs.Rings.{dispose-ring, settle-ring}
 use Rattle.meaning.proofs.Still.{Given, given, Fixed, Still, drops-still, renews-still}
 use Rattle.meaning.proofs.Flush.{Lasting, run-lasts, flush-empties}

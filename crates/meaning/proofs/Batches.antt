@@ -5,7 +5,8 @@ use native.Mathlib.Omega.{arith}
 use Rattle.meaning.specs.State.{St}
 use Rattle.meaning.specs.Setters.{withDepth}
 use Rattle.meaning.specs.Engine.{start, endAt}
-use Rattle.meaning.specs.Refusals.{mostDepth, reserve}
+use Rattle.meaning.specs.Reserve.{reserve}
+use Rattle.meaning.specs.Refusals.{mostDepth}
 use Rattle.meaning.specs.WellFormed.{WellFormed}
 
 -- another depth inside a batch

@@ -2,24 +2,24 @@
 use mathlib.Core.Path.{_≡_, refl, sym, ap, ap₂, _∙_, subst, fun-ext}
 use mathlib.Core.Logic.{_⊎_, inl, inr}
 use mathlib.Core.Bool.{Bool, true, false}
-use mathlib.Core.List.{List, [], _∷_, _++_, append-nil}
+use mathlib.Core.List.{List, [], _∷_, _++_}
 use mathlib.Core.Option.{Option, none, some}
-use Prim.Native.Nat.{ℕ, zero, suc, _+_, _*_, _≤_, _<_}
+use Prim.Native.Nat.{ℕ, zero, suc, _+_, _≤_, _<_}
 use native.Mathlib.Omega.{arith}
 use lib.Dec.{eqb}
 use lib.ListN.{length}
 use borrow.Author.Tests.{eqb-true, eqb-false}
 use Rattle.primitive.specs.declared.flags.Named.{Named}
 use Rattle.formula.specs.Trees.{Tree, names}
-use Rattle.meaning.specs.State.{St, Kind, signal, computed, effect, scope, Room, readable, deps, f0, f1, f17, up}
+use Rattle.meaning.specs.State.{St, Kind, signal, computed, effect, scope, readable, deps, f0, f17, up}
 use Rattle.meaning.specs.Setters.{setFl, setGone}
 use Rattle.meaning.specs.Links.{isNil, headOf, remove, each, cut, rewind, purgeW, lastLink, disposeW, unwatchedW, unlinkN, purge, dispose}
-use Rattle.meaning.specs.Refusals.{ownedLink, reserveOf}
-use Rattle.meaning.specs.WellFormed.{In, Once, Lists, readLinks, ComputedFlags, never, clean, stale, maybe, dirty, EffectFlags, watching, pushed, pending, dirty as soiled}
-use Rattle.meaning.proofs.Laws.{clash, false≢true, either, none-some, branch, up-same, up-other, up-by, in-left, in-right}
-use Rattle.meaning.proofs.Members.{remove-in, in-remove, remove-absent, remove-head, remove-once, remove-append, none-nil, nil-none, isNil-true, isNil-false, append-is-nil, once-right, once-apart, most-below, total-least, reads-remove, reads-few}
-use Rattle.meaning.proofs.Still.{Given, given}
-use Rattle.meaning.proofs.Inside.{Set, nobody, also, Static, Goes, AtRest, Rests, Slots, Inside, widen, let-out, at-same, own-still, read-moves, moves-read, Under, under-same, under-then, goes-under, never-back, owner-owns}
+use Rattle.meaning.specs.Reserve.{reserveOf}
+use Rattle.meaning.specs.WellFormed.{In, Once, Lists, readLinks, ComputedFlags, never, clean, stale, maybe, dirty, EffectFlags, watching, pending}
+use Rattle.meaning.proofs.Laws.{clash, false≢true, either, none-some, branch, up-same, up-other, up-by, in-right}
+use Rattle.meaning.proofs.Members.{remove-in, in-remove, remove-absent, remove-head, remove-once, remove-append, none-nil, nil-none, isNil-true, isNil-false, append-is-nil, once-right, once-apart, most-below, total-least, reads-remove}
+use Rattle.meaning.proofs.Still.{Given}
+use Rattle.meaning.proofs.Inside.{Set, nobody, also, Static, Goes, AtRest, Rests, Slots, Inside, widen, let-out, at-same, read-moves, moves-read, Under, under-same, under-then, goes-under, never-back, owner-owns}
 
 -- ---- a link is cut
 module _ (g : Given) (X : Set) (s : St) (l : ℕ) (i : Inside g X s) (lv : s .live l ≡ true) where

@@ -6,7 +6,7 @@ use mathlib.Core.List.{List, [], _∷_}
 use Prim.Native.Nat.{ℕ, zero, suc, _≤_, _<_}
 use native.Mathlib.Omega.{arith}
 use Rattle.meaning.specs.State.{St, Room, below, empty}
-use Rattle.meaning.specs.Refusals.{total, reserve}
+use Rattle.meaning.specs.Reserve.{total, reserve}
 use Rattle.meaning.specs.WellFormed.{In, Once, WellFormed}
 use Rattle.meaning.specs.Commands.{capacities, emptying}
 use Rattle.meaning.proofs.Laws.{false≢true, branch}

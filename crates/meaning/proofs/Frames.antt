@@ -2,26 +2,23 @@
 use mathlib.Core.Path.{_≡_, refl, sym, ap, ap₂, _∙_, subst}
 use mathlib.Core.Logic.{_⊎_, inl, inr}
 use mathlib.Core.Bool.{Bool, true, false}
-use mathlib.Core.List.{List, [], _∷_, _++_}
-use mathlib.Core.Option.{Option, none, some}
-use Prim.Native.Nat.{ℕ, suc, _+_, _≤_, _<_}
+use mathlib.Core.List.{List, [], _++_}
+use Prim.Native.Nat.{ℕ, suc, _≤_, _<_}
 use native.Mathlib.Omega.{arith}
-use lib.Dec.{eqb}
 use lib.ListN.{length}
-use borrow.Author.Tests.{eqb-true, eqb-false}
 use Rattle.primitive.specs.declared.flags.Named.{Named}
 use Rattle.primitive.specs.declared.values.Value.{Value}
-use Rattle.formula.specs.Trees.{Tree, names}
-use Rattle.meaning.specs.State.{St, Kind, signal, computed, effect, scope, Row, readable, deps, f0, f1, up}
+use Rattle.formula.specs.Trees.{names}
+use Rattle.meaning.specs.State.{St, Kind, signal, computed, effect, scope, Row, readable, deps, f1}
 use Rattle.meaning.specs.Setters.{withCycle, withSto, withPend, withDepth, withLog}
-use Rattle.meaning.specs.Refusals.{reserveOf}
-use Rattle.meaning.specs.WellFormed.{In, readLinks, ComputedFlags, clean}
-use Rattle.meaning.proofs.Laws.{clash, false≢true, either, none-some}
+use Rattle.meaning.specs.Reserve.{reserveOf}
+use Rattle.meaning.specs.WellFormed.{In, readLinks, clean}
+use Rattle.meaning.proofs.Laws.{clash, either, none-some}
 use Rattle.meaning.proofs.Members.{none-nil, nil-none, append-is-nil, reads-agree}
-use Rattle.meaning.proofs.Still.{Given, given}
-use Rattle.meaning.proofs.Inside.{Set, nobody, also, Static, Goes, AtRest, Rests, Slots, Inside, Under}
-use Rattle.meaning.proofs.Dropping.{aComputed, Dropped, Purged}
-use Rattle.meaning.proofs.Room.{ownerLinks, paid, spends, Paid}
+use Rattle.meaning.proofs.Still.{Given}
+use Rattle.meaning.proofs.Inside.{Set, Static, AtRest, Slots, Inside, Under}
+use Rattle.meaning.proofs.Dropping.{aComputed, Purged}
+use Rattle.meaning.proofs.Room.{spends, Paid}
 
 -- ---- columns that well-formedness does not look at
 pub others : (g : Given) (X : Set) (s : St) → Inside g X s → (c : ℕ) (f p : ℕ → Value) (d : ℕ) (l : List Row) → Inside g X (withLog (withDepth (withPend (withSto (withCycle s c) f) p) d) l)

@@ -1,23 +1,24 @@
 -- Well-formedness inside an operation: as at rest, but nothing is asked of the nodes of X, whose evaluation, purge or making is under way. Assumes nothing.
-use mathlib.Core.Path.{_≡_, refl, sym, ap, ap₂, _∙_, subst}
+use mathlib.Core.Path.{_≡_, refl, sym, ap, _∙_, subst}
 use mathlib.Core.Logic.{_⊎_, inl, inr}
 use mathlib.Core.Bool.{Bool, true, false}
 use mathlib.Core.List.{List, [], _∷_, _++_, append-nil}
-use mathlib.Core.Option.{Option, none, some}
+use mathlib.Core.Option.{none, some}
 use Prim.Native.Nat.{ℕ, _≤_, _<_}
 use native.Mathlib.Omega.{arith}
 use lib.Dec.{eqb}
 use lib.ListN.{length}
 use borrow.Author.Tests.{eqb-true, eqb-false}
 use Rattle.primitive.specs.declared.flags.Named.{Named}
-use Rattle.formula.specs.Trees.{Tree, size, nesting, names}
+use Rattle.formula.specs.Trees.{size, nesting, names}
 use Rattle.formula.specs.Legal.{mostCells, mostNesting}
-use Rattle.meaning.specs.State.{St, Kind, signal, computed, effect, scope, readable, deps, f0, f1, f2, f17, f32, f33, f48, f49}
+use Rattle.meaning.specs.State.{St, Kind, signal, computed, effect, scope, readable, deps, f0, f1, f2, f17}
 use Rattle.meaning.specs.Engine.{levelOf}
-use Rattle.meaning.specs.Refusals.{total, reserveOf, reserve, mostLevel, mostDepth}
+use Rattle.meaning.specs.Reserve.{total, reserveOf, reserve}
+use Rattle.meaning.specs.Refusals.{mostLevel, mostDepth}
 use Rattle.meaning.specs.WellFormed.{In, Once, Lists, readLinks, ComputedFlags, never, clean, stale, maybe, dirty, EffectFlags, watching, pushed, pending, dirty as soiled, WellFormed}
-use Rattle.meaning.proofs.Laws.{clash, false≢true, either, none-some}
-use Rattle.meaning.proofs.Members.{none-nil, nil-none, append-is-nil}
+use Rattle.meaning.proofs.Laws.{clash, either}
+use Rattle.meaning.proofs.Members.{none-nil, nil-none}
 use Rattle.meaning.proofs.Still.{Given, given}
 
 -- ---- sets of nodes

@@ -17,7 +17,8 @@ use Rattle.meaning.specs.Marks.{propagate}
 use Rattle.meaning.specs.Reads.{evaluate}
 use Rattle.meaning.specs.Engine.{logged, run, flushOn, flushAt, store, node, owned, newSignal, newComputed, newScope, newEffect, endAt}
 use Rattle.meaning.specs.Words.{Command, makeSignal, makeComputed, makeEffect, makeScope, setTo, addTo, readOf, disposeOf, batchStart, batchEnd, commandOf, nodeOf, ownerOf, formulaOf}
-use Rattle.meaning.specs.Refusals.{total, sightOf, refusal}
+use Rattle.meaning.specs.Reserve.{total}
+use Rattle.meaning.specs.Refusals.{sightOf, refusal}
 use Rattle.meaning.specs.Commands.{perform, performAny, answer, command}
 use Rattle.meaning.proofs.Laws.{branch, up-other}
 use Rattle.meaning.proofs.Rings.{Drops, Renews, Runs, weaker-drops, weaker-renews, dispose-ring, settle-ring, evaluate-ring, run-ring, flush-ring}

@@ -49,6 +49,10 @@ pub or-none : (a b : Bool) → a ≡ false → b ≡ false → a || b ≡ false
 or-none true b e f = e
 or-none false b e f = f
 
+pub or-false : (b : Bool) → b || false ≡ b
+or-false true = refl
+or-false false = refl
+
 pub or-left : (a b : Bool) → a || b ≡ false → a ≡ false
 or-left true b e = e
 or-left false b e = refl

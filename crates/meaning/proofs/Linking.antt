@@ -1,22 +1,20 @@
 -- Linking inside an operation: the next old link is taken over, or a new one is put into a free slot. Assumes nothing.
 use mathlib.Core.Path.{_≡_, refl, sym, ap, ap₂, _∙_, subst, fun-ext}
 use mathlib.Core.Logic.{_⊎_, inl, inr}
-use mathlib.Core.Bool.{Bool, true, false}
-use mathlib.Core.List.{List, [], _∷_, _++_, append-nil, append-assoc}
-use mathlib.Core.Option.{Option, none, some}
-use Prim.Native.Nat.{ℕ, zero, suc, _+_, _≤_, _<_}
-use native.Mathlib.Omega.{arith}
+use mathlib.Core.Bool.{true, false}
+use mathlib.Core.List.{List, [], _∷_, _++_, append-assoc}
+use Prim.Native.Nat.{ℕ, _≤_, _<_}
 use lib.Dec.{eqb}
 use lib.ListN.{length}
 use borrow.Author.Tests.{eqb-true, eqb-false}
 use Rattle.formula.specs.Trees.{names}
-use Rattle.meaning.specs.State.{St, readable, deps, up}
+use Rattle.meaning.specs.State.{St, deps, up}
 use Rattle.meaning.specs.Links.{renew, insert}
 use Rattle.meaning.specs.WellFormed.{In, Once, Lists, readLinks, EffectFlags}
-use Rattle.meaning.proofs.Laws.{clash, false≢true, either, branch, up-same, up-other, up-by, in-left, in-right, in-cases}
+use Rattle.meaning.proofs.Laws.{clash, either, up-same, up-other, up-by, in-left, in-right, in-cases}
 use Rattle.meaning.proofs.Members.{once-both, once-left, once-right, once-apart, reads-agree}
-use Rattle.meaning.proofs.Still.{Given, given}
-use Rattle.meaning.proofs.Inside.{Set, also, Static, Goes, AtRest, Rests, Slots, Inside, at-same}
+use Rattle.meaning.proofs.Still.{Given}
+use Rattle.meaning.proofs.Inside.{Set, also, Goes, AtRest, Slots, Inside, at-same}
 
 -- the ends of the links in its lists agree
 pub at-ends : (g : Given) (queue : List ℕ) (dep dep′ sub sub′ : ℕ → ℕ) (n : ℕ) (s : St) → ((l : ℕ) → In l (s .done n) → dep′ l ≡ dep l) → ((l : ℕ) → In l (s .subs n) → sub′ l ≡ sub l)

@@ -1,38 +1,39 @@
 -- The four makings keep well-formedness and are not stuck; an owned node is linked to its owner, and an effect runs at once. Assumes nothing.
 use mathlib.Core.Path.{_≡_, refl, sym, ap, ap₂, _∙_, subst}
-use mathlib.Core.Logic.{_⊎_, inl, inr}
-use mathlib.Core.Bool.{Bool, true, false}
+use mathlib.Core.Logic.{inl, inr}
+use mathlib.Core.Bool.{Bool, true, false, _||_}
 use mathlib.Core.List.{List, [], _∷_, _++_, append-nil}
 use mathlib.Core.Option.{Option, none, some}
-use Prim.Native.Nat.{ℕ, zero, suc, _+_, _*_, _≤_, _<_}
+use Prim.Native.Nat.{ℕ, _≤_, _<_}
 use native.Mathlib.Omega.{arith}
 use lib.Dec.{eqb}
 use lib.IntN.{pos}
 use lib.ListN.{length}
-use borrow.Author.Tests.{ne-eqb, eqb-true, eqb-false}
+use borrow.Author.Tests.{eqb-true, eqb-false}
 use Rattle.primitive.specs.declared.flags.Named.{Named}
 use Rattle.primitive.specs.declared.values.Value.{Value}
 use Rattle.formula.specs.Trees.{Tree, constant, names}
 use Rattle.meaning.specs.State.{St, Kind, signal, computed, effect, scope, readable, deps, f0, f1, f2, f6, nothing, up}
 use Rattle.meaning.specs.Setters.{setFl}
-use Rattle.meaning.specs.Links.{headOf, lastOf, goesTo, isFrom, insert, link}
+use Rattle.meaning.specs.Links.{headOf, lastOf, goesTo, isFrom, spent, insert, link}
 use Rattle.meaning.specs.Marks.{isEffect}
-use Rattle.meaning.specs.Reads.{evalBy, readW, fresh, evaluate}
+use Rattle.meaning.specs.Reads.{evalBy, readW, fresh}
 use Rattle.meaning.specs.Engine.{logged, node, owned, newSignal, newComputed, newScope, newEffect}
-use Rattle.meaning.specs.Refusals.{reserveOf, ownedLink, mostDepth}
-use Rattle.meaning.specs.WellFormed.{In, readLinks, ComputedFlags, never, EffectFlags, WellFormed}
-use Rattle.meaning.proofs.Laws.{clash, false≢true, either, branch, none-some, up-same, up-other, in-left, in-right}
-use Rattle.meaning.proofs.Members.{reads-append, reads-agree}
+use Rattle.meaning.specs.Reserve.{reserveOf}
+use Rattle.meaning.specs.Refusals.{mostDepth}
+use Rattle.meaning.specs.WellFormed.{In, readLinks, never, EffectFlags, WellFormed}
+use Rattle.meaning.proofs.Laws.{clash, false≢true, either, branch, or-false, none-some, up-same, up-other, in-left}
+use Rattle.meaning.proofs.Members.{reads-append}
 use Rattle.meaning.proofs.Rings.{evaluate-ring}
-use Rattle.meaning.proofs.Still.{Given, given, Fixed, fixed, Still, link-still, renews-still}
-use Rattle.meaning.proofs.Inside.{Set, nobody, also, Static, Goes, AtRest, Rests, Slots, Inside, let-out, widen, at-same, inside-rest}
+use Rattle.meaning.proofs.Still.{Given, given, Fixed, Still, renews-still}
+use Rattle.meaning.proofs.Inside.{nobody, also, Static, Goes, AtRest, Rests, Inside, let-out, widen, at-same, inside-rest}
 use Rattle.meaning.proofs.Dropping.{aComputed}
-use Rattle.meaning.proofs.Room.{ownerLinks, paid, spends, Paid, rests-paid, slot-left}
+use Rattle.meaning.proofs.Room.{ownerLinks, spends, Paid, rests-paid, slot-left}
 use Rattle.meaning.proofs.Linking.{at-ends, insert-inside}
 use Rattle.meaning.proofs.Frames.{frame-same, rests-clean}
 use Rattle.meaning.proofs.Reading.{Near}
-use Rattle.meaning.proofs.Running.{Goes-on, Owns, Lies, first-run}
-use Rattle.meaning.proofs.Making.{Fits, N, G, deps-new, gone-new, subs-new, kind-new, fl-new, owner-new, done-new, new-static, new-inside, not-queued}
+use Rattle.meaning.proofs.Running.{Goes-on, Owns, first-run}
+use Rattle.meaning.proofs.Making.{Fits, G, deps-new, gone-new, subs-new, kind-new, fl-new, owner-new, done-new, new-static, new-inside, not-queued}
 
 -- nobody is under way any more
 pub at-rest : (g : Given) (t : St) → Static g → Inside g nobody t → (t .depth ≡ 0 → t .queue ≡ []) → t .depth ≤ mostDepth → WellFormed t
@@ -150,10 +151,13 @@ module _ (s : St) (w : WellFormed s) (k : Kind) (t : Tree) (b : Named) (v : Valu
         off : {m : ℕ} → (m ≡ n → ⊥) → also nobody n m → ⊥
         off f (inr q) = f q
 
+    unspent : (M .stuck || spent M) ≡ s .stuck
+    unspent = let x = no-reads in let y = own-most in let z = one-more in ap (λ (q : Bool). s .stuck || q) (slot-left g st (also nobody n) M n i (omega arith) (omega arith) all-paid .1) ∙ or-false (s .stuck)
+
     -- ---- the link
     inserted : (ls : List ℕ) → s .free ≡ ls → Made (some p) fits (insert M n p 0 ls)
     unfolding insert readLinks
-    inserted [] e = let x = no-reads in let y = own-most in let z = one-more in absurd (slot-left g st (also nobody n) M n i (omega arith) (omega arith) all-paid e)
+    inserted [] e = let x = no-reads in let y = own-most in let z = one-more in absurd (slot-left g st (also nobody n) M n i (omega arith) (omega arith) all-paid .0 e)
     inserted (l ∷ ls) e =
         let x = insert M n p 0 (l ∷ ls) in
         let hn : n < g .size = omega arith in
@@ -184,7 +188,7 @@ module _ (s : St) (w : WellFormed s) (k : Kind) (t : Tree) (b : Named) (v : Valu
         let d = done-new s w k t (some p) b v fits in
         record {
           inside = let-out g (also nobody n) x p (widen g (also (also (also nobody n) n) p) (also (also nobody n) p) x in-x j) rp-now;
-          stuck = refl;
+          stuck = unspent;
           owns = record {
             owned = λ q z. (l, subs-now, up-same (s .sub) l p ∙ same-some (sym (owner-new s w k t (some p) b v fits n refl) ∙ z));
             unowned = λ z. none-some (sym z ∙ owner-new s w k t (some p) b v fits n refl);

@@ -15,12 +15,13 @@ use Rattle.formula.specs.Trees.{Tree, size, nesting, names}
 use Rattle.formula.specs.Legal.{mostCells, mostNesting}
 use Rattle.meaning.specs.State.{St, Kind, signal, computed, effect, scope, readable, deps, up}
 use Rattle.meaning.specs.Engine.{tallest, levelOf, cellsOf, node}
-use Rattle.meaning.specs.Refusals.{total, reserveOf, reserve, mostLevel}
+use Rattle.meaning.specs.Reserve.{total, reserveOf, reserve}
+use Rattle.meaning.specs.Refusals.{mostLevel}
 use Rattle.meaning.specs.WellFormed.{In, Once, readLinks, EffectFlags, WellFormed}
 use Rattle.meaning.proofs.Laws.{clash, either, up-same, up-other, up-by, in-left}
 use Rattle.meaning.proofs.Kept.{total-same}
 use Rattle.meaning.proofs.Still.{Given, given}
-use Rattle.meaning.proofs.Inside.{Set, nobody, also, Static, Goes, AtRest, Rests, Slots, Inside, at-same, rest-inside, reserved}
+use Rattle.meaning.proofs.Inside.{nobody, also, Static, Rests, Slots, Inside, at-same, rest-inside, reserved}
 
 -- ---- what agrees below n
 tallest-same : (f g : ℕ → ℕ) (n : ℕ) → ((m : ℕ) → m < n → g m ≡ f m) → (ns : List ℕ) → ((m : ℕ) → In m ns → m < n) → tallest g ns ≡ tallest f ns

@@ -4,22 +4,20 @@ use mathlib.Core.Logic.{_⊎_, inl, inr}
 use mathlib.Core.Bool.{Bool, true, false, not, _&&_, _||_}
 use mathlib.Core.List.{List, [], _∷_, _++_, reverse, reverseAux}
 use mathlib.Core.Option.{Option, none, some}
-use Prim.Native.Nat.{ℕ, zero, suc, _+_, _≤_, _<_}
+use Prim.Native.Nat.{ℕ, zero, suc, _≤_, _<_}
 use native.Mathlib.Omega.{arith}
-use lib.Dec.{eqb, leb, ltb}
-use lib.ListN.{length, length-append}
-use borrow.Author.Tests.{eqb-true, eqb-false, le-ltb, lt-leb}
+use lib.Dec.{eqb, ltb}
+use lib.ListN.{length}
+use borrow.Author.Tests.{eqb-true, eqb-false, le-ltb}
 use Rattle.primitive.specs.declared.flags.Named.{Named}
-use Rattle.meaning.specs.State.{St, Kind, signal, computed, effect, scope, readable, deps, unclean, recursing, withPending, withWatching, f0, f1, f2, f17, f32, f33, f48, f49, up}
+use Rattle.meaning.specs.State.{St, Kind, signal, computed, effect, scope, readable, deps, unclean, recursing, withPending, withWatching, f0, f1, f2, f32, up}
 use Rattle.meaning.specs.Setters.{setFl, withStuck}
-use Rattle.meaning.specs.Links.{several}
-use Rattle.meaning.specs.Marks.{Marks, marks, marksOf, withMarks, halt, chain, calm, isEffect, effects, notify, mark, prop, propagate}
-use Rattle.meaning.specs.Refusals.{total}
+use Rattle.meaning.specs.Marks.{Marks, marks, marksOf, withMarks, chain, calm, isEffect, effects, notify, mark}
 use Rattle.meaning.specs.WellFormed.{In, Once, readLinks, ComputedFlags, never, clean, stale, maybe, dirty, EffectFlags, watching, pushed, pending, dirty as soiled}
-use Rattle.meaning.proofs.Laws.{clash, false≢true, either, branch, none-some, or-left, or-right, up-same, up-other, up-by, in-left, in-right, in-cases}
-use Rattle.meaning.proofs.Members.{nil-none, in-or-not, once-both, most-below, gather, gather-length, gather-in, gather-once, total-least, total-spare, reads-in}
-use Rattle.meaning.proofs.Still.{Given, given}
-use Rattle.meaning.proofs.Inside.{Set, nobody, also, Static, Goes, AtRest, Rests, Slots, Inside, widen, let-out, owner-owns}
+use Rattle.meaning.proofs.Laws.{clash, either, branch, or-false, up-same, up-other, in-left, in-right, in-cases}
+use Rattle.meaning.proofs.Members.{nil-none, in-or-not, once-both, most-below, reads-in}
+use Rattle.meaning.proofs.Still.{Given}
+use Rattle.meaning.proofs.Inside.{Set, nobody, also, Static, Goes, AtRest, Rests, Inside, widen, let-out, owner-owns}
 use Rattle.meaning.proofs.Dropping.{aComputed, flags-inside}
 use Rattle.meaning.proofs.Running.{Goes-on}
 
@@ -74,10 +72,6 @@ stuck-inside g X s b i = record {
   effects = i .effects;
   rests = i .rests;
 }
-
-or-false : (b : Bool) → (b || false) ≡ b
-or-false true = refl
-or-false false = refl
 
 -- ---- flags at rest
 pub no-recursing : (g : Given) (s : St) (n : ℕ) → Rests g s n → recursing (s .fl n) ≡ false

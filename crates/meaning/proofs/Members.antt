@@ -2,7 +2,7 @@
 use mathlib.Core.Path.{_≡_, refl, sym, ap, ap₂, _∙_, subst}
 use mathlib.Core.Logic.{_⊎_, inl, inr}
 use mathlib.Core.Bool.{Bool, true, false}
-use mathlib.Core.List.{List, [], _∷_, _++_, append-nil, append-assoc}
+use mathlib.Core.List.{List, [], _∷_, _++_}
 use Prim.Native.Nat.{ℕ, zero, suc, _+_, _≤_, _<_}
 use native.Mathlib.Omega.{arith}
 use lib.Dec.{eqb}
@@ -10,7 +10,7 @@ use lib.ListN.{length, length-append}
 use borrow.Author.Tests.{eq-eqb, ne-eqb, eqb-true, eqb-false}
 use Rattle.meaning.specs.State.{Kind, readable}
 use Rattle.meaning.specs.Links.{remove, isNil}
-use Rattle.meaning.specs.Refusals.{total}
+use Rattle.meaning.specs.Reserve.{total}
 use Rattle.meaning.specs.WellFormed.{In, Once, readLinks}
 use Rattle.meaning.proofs.Laws.{clash, false≢true, either, branch, in-left, in-right, in-cases}
 
@@ -214,6 +214,22 @@ most-marked c (suc n) xs o h =
     go : length xs ≤ suc (length (remove n xs)) → length (remove n xs) ≤ total c n → In n xs ⊎ (In n xs → ⊥) → length xs ≤ total c n + c n
     go a b (inl i) = let d = h n i .1 in omega arith
     go a b (inr f) = let e = ap length (remove-absent n xs f) in omega arith
+
+-- and all places where there is one are in the list
+pub all-marked : (c : ℕ → ℕ) (n : ℕ) (xs : List ℕ) → ((x : ℕ) → x < n → (c x ≡ 0) ⊎ ((c x ≡ 1) × In x xs)) → total c n ≤ length xs
+unfolding total
+all-marked c zero xs h = omega arith
+all-marked c (suc n) xs h =
+    go (h n (omega arith)) (λ ys k. all-marked c n ys (λ x l. k x (omega arith) (h x (omega arith))))
+  where
+    keep : (x : ℕ) → x < n → (c x ≡ 0) ⊎ ((c x ≡ 1) × In x xs) → (c x ≡ 0) ⊎ ((c x ≡ 1) × In x (remove n xs))
+    keep x l (inl e) = inl e
+    keep x l (inr p) = inr (p .0, in-remove x n xs (p .1) (λ e. omega arith))
+
+    go : (c n ≡ 0) ⊎ ((c n ≡ 1) × In n xs)
+        → ((ys : List ℕ) → ((x : ℕ) → x < n → (c x ≡ 0) ⊎ ((c x ≡ 1) × In x xs) → (c x ≡ 0) ⊎ ((c x ≡ 1) × In x ys)) → total c n ≤ length ys) → total c n + c n ≤ length xs
+    go (inl e) rec = let a = rec xs (λ x l p. p) in omega arith
+    go (inr p) rec = let a = rec (remove n xs) keep in let b = remove-takes n xs (p .1) in let e = p .0 in omega arith
 
 -- ---- the read links of a list
 module _ (kind : ℕ → Kind) (dep : ℕ → ℕ) where

@@ -1,31 +1,27 @@
 -- Evaluation inside an operation: each read brings its node up to date and links it; there is a slot for it, since at most as many reads are made as the formula names. Assumes nothing.
-use mathlib.Core.Path.{_≡_, refl, sym, ap, ap₂, _∙_, subst}
+use mathlib.Core.Path.{_≡_, refl, sym, ap, _∙_, subst}
 use mathlib.Core.Logic.{_⊎_, inl, inr}
-use mathlib.Core.Bool.{Bool, true, false}
-use mathlib.Core.List.{List, [], _∷_, _++_, append-nil, append-assoc}
-use mathlib.Core.Option.{Option, none, some}
-use Prim.Native.Nat.{ℕ, zero, suc, _+_, _*_, _≤_, _<_}
+use mathlib.Core.Bool.{Bool, true, false, _||_}
+use mathlib.Core.List.{List, [], _∷_, _++_, append-nil}
+use Prim.Native.Nat.{ℕ, suc, _+_, _≤_, _<_}
 use native.Mathlib.Omega.{arith}
 use lib.Dec.{eqb}
 use lib.ListN.{length, length-append}
 use borrow.Author.Tests.{eqb-true, eqb-false}
-use Rattle.primitive.specs.declared.flags.Named.{Named}
-use Rattle.primitive.specs.declared.values.Value.{Value}
 use Rattle.primitive.specs.Values.{isZero}
 use Rattle.formula.specs.Trees.{Tree, constant, read, two, choose, names}
-use Rattle.meaning.specs.State.{St, Kind, signal, computed, effect, scope, readable, deps, f1, up}
-use Rattle.meaning.specs.Links.{headOf, lastOf, goesTo, isFrom, renew, insert, link}
-use Rattle.meaning.specs.Marks.{shallow}
-use Rattle.meaning.specs.Reads.{Ans, ans, Out, evalBy, settleW, readW}
-use Rattle.meaning.specs.Refusals.{reserveOf, ownedLink}
+use Rattle.meaning.specs.State.{St, readable, f1}
+use Rattle.meaning.specs.Links.{headOf, lastOf, goesTo, isFrom, renew, spent, insert, link}
+use Rattle.meaning.specs.Reads.{Ans, Out, evalBy, settleW, readW}
+use Rattle.meaning.specs.Reserve.{reserveOf}
 use Rattle.meaning.specs.WellFormed.{In, readLinks}
-use Rattle.meaning.proofs.Laws.{clash, false≢true, either, branch, up-same, up-other, up-by, in-left, in-right, in-cases}
+use Rattle.meaning.proofs.Laws.{clash, false≢true, either, branch, or-false, up-same, up-other, in-left, in-right}
 use Rattle.meaning.proofs.Members.{nil-none, reads-few, reads-append, reads-agree}
-use Rattle.meaning.proofs.Still.{Given, given}
-use Rattle.meaning.proofs.Inside.{Set, also, Static, Goes, AtRest, Rests, Slots, Inside, widen, let-out}
+use Rattle.meaning.proofs.Still.{Given}
+use Rattle.meaning.proofs.Inside.{Set, also, Static, Goes, Inside, widen, let-out}
 use Rattle.meaning.proofs.Room.{ownerLinks, paid, spends, Paid, rests-paid, slot-left}
 use Rattle.meaning.proofs.Linking.{renew-inside, insert-inside, other}
-use Rattle.meaning.proofs.Frames.{Low, Soiled, Frame, frame-flags, frame-same, frame-then, frame-wider, paid-frame, Open, rests-clean}
+use Rattle.meaning.proofs.Frames.{Low, Frame, frame-flags, frame-then, frame-wider, paid-frame, Open, rests-clean}
 use Rattle.meaning.proofs.Soiling.{shallow-inside, shallow-clean, shallow-frame}
 
 module _ (g : Given) (st : Static g) where
@@ -171,9 +167,12 @@ module _ (g : Given) (st : Static g) where
             go (inl x) = during-open i s d (omega arith) .pays n h x
             go (inr f) = rests-paid g st X s n (d .inside) h (d .inside .rests n h f)
 
+        unspent : (s .stuck || spent s) ≡ s .stuck
+        unspent = let a = paid-u i s d in let b = d .spare in ap (λ (x : Bool). s .stuck || x) (slot-left g st X s u (d .inside) hu (omega arith) all-paid .1) ∙ or-false (s .stuck)
+
         inserted : (ls : List ℕ) → s .free ≡ ls → During X u s₀ (suc i) (insert s m u v ls)
         unfolding insert
-        inserted [] e = let a = paid-u i s d in let b = d .spare in absurd (slot-left g st X s u (d .inside) hu (omega arith) all-paid e)
+        inserted [] e = let a = paid-u i s d in let b = d .spare in absurd (slot-left g st X s u (d .inside) hu (omega arith) all-paid .0 e)
         inserted (l ∷ ls) e =
             let t = insert s m u v (l ∷ ls) in
             let hm : m < g .size = let z = m-low .1 in omega arith in
@@ -198,7 +197,7 @@ module _ (g : Given) (st : Static g) where
               held = λ k lv a q. q;
               pending = λ n a q. refl;
               soiled = λ n a q x y. clash y x;
-              stuck = refl;
+              stuck = unspent;
             } in
             let a = ap length (up-same (s .done) u (s .done u ++ l ∷ [])) in
             let b = length-append (s .done u) (l ∷ []) in

@@ -2,19 +2,22 @@
 use mathlib.Core.Path.{_≡_, refl, sym, ap, ap₂, _∙_, subst}
 use mathlib.Core.Logic.{_⊎_, inl, inr}
 use mathlib.Core.Bool.{Bool, true, false}
-use mathlib.Core.List.{List, [], _∷_, _++_, append-nil}
+use mathlib.Core.List.{List, [], _++_, append-nil}
 use mathlib.Core.Option.{Option, none, some}
-use Prim.Native.Nat.{ℕ, zero, suc, _+_, _*_, _≤_, _<_}
+use Prim.Native.Nat.{ℕ, _+_, _≤_, _<_}
 use native.Mathlib.Omega.{arith}
+use lib.Dec.{leb, ltb}
 use lib.ListN.{length, length-append}
-use Rattle.formula.specs.Trees.{Tree, names}
+use borrow.Author.Tests.{le-ltb, lt-leb}
+use Rattle.formula.specs.Trees.{names}
 use Rattle.meaning.specs.State.{St, Kind, signal, computed, effect, scope, readable, deps}
-use Rattle.meaning.specs.Refusals.{total, ownedLink, reserveOf}
-use Rattle.meaning.specs.WellFormed.{In, Once, Lists, readLinks}
-use Rattle.meaning.proofs.Laws.{clash, false≢true, either, branch, in-left, in-right}
-use Rattle.meaning.proofs.Members.{none-nil, nil-none, all-below, gather, gather-length, in-gather, gather-in, gather-once, most-below, total-least, total-spare, reads-in, reads-agree}
+use Rattle.meaning.specs.Reserve.{total, ownedLink, reserveOf, reserve}
+use Rattle.meaning.specs.Links.{spent}
+use Rattle.meaning.specs.WellFormed.{In, readLinks, WellFormed}
+use Rattle.meaning.proofs.Laws.{clash, either, branch, or-none, in-left, in-right}
+use Rattle.meaning.proofs.Members.{all-marked, all-below, gather, gather-length, in-gather, total-least, total-spare, reads-in}
 use Rattle.meaning.proofs.Still.{Given, given}
-use Rattle.meaning.proofs.Inside.{Set, nobody, Static, Goes, AtRest, Rests, Slots, Inside, reserved}
+use Rattle.meaning.proofs.Inside.{Set, nobody, Static, Rests, Slots, Inside, reserved, static, rest-inside}
 
 -- a node pays for its read links, and an effect or a scope for the link to its owner
 abbrev pub ownerLinks : Kind → List ℕ → List ℕ
@@ -25,6 +28,14 @@ paid g s n = length (readLinks (g .kind) (s .dep) (deps s n)) + length (ownerLin
 
 abbrev pub spends : Given → St → ℕ → ℕ
 spends g s n = reserveOf (g .kind n) (s .gone n) (g .form n) (g .owner n)
+
+-- the number of live links
+abbrev one : Bool → ℕ
+one true = 1
+one false = 0
+
+abbrev pub liveLinks : St → ℕ
+liveLinks s = total (λ l. one (s .live l)) (s .room .slots)
 
 pub record Paid (g : Given) (s : St) (n : ℕ) : Type 0 where
   pub enough : paid g s n ≤ spends g s n
@@ -121,17 +132,33 @@ module _ (g : Given) (st : Static g) where
       here l lo = either (s .live l) (λ e. in-right l (s .free) (gather (bill s) (g .size)) (billed s (i .lists) l e)) (λ e. in-left l (s .free) (gather (bill s) (g .size)) (i .lists .free-or-live l lo e))
 
   -- live links are at most the reserve, and that at most the slots
-  pub live-reserved : (X : Set) (s : St) → Inside g X s → ((n : ℕ) → n < g .size → Paid g s n) → (g .room .slots ≤ length (s .free) + reserved g (s .gone)) × (reserved g (s .gone) ≤ g .room .slots)
+  pub live-reserved : (X : Set) (s : St) → Inside g X s → ((n : ℕ) → n < g .size → Paid g s n) → (liveLinks s ≤ reserved g (s .gone)) × (reserved g (s .gone) ≤ g .room .slots)
   live-reserved X s i all =
-      let a = live-paid X s i in
+      let k : s .room .slots ≡ g .room .slots = ap (λ (z : Given). z .room .slots) (i .same) in
+      let a = all-marked (λ l. one (s .live l)) (s .room .slots) (gather (bill s) (g .size)) (λ l h. at l) in
+      let c = bill-length s in
       let b = total-least (paid g s) (spends g s) (g .size) (λ n lo. all n lo .enough) in
       (omega arith, i .fits)
+    where
+      at : (l : ℕ) → (one (s .live l) ≡ 0) ⊎ ((one (s .live l) ≡ 1) × In l (gather (bill s) (g .size)))
+      at l = either (s .live l) (λ e. inr (ap one e, billed s (i .lists) l e)) (λ e. inl (ap one e))
 
-  -- u has a link to spare: a slot is free
-  pub slot-left : (X : Set) (s : St) (u : ℕ) → Inside g X s → u < g .size → paid g s u < spends g s u → ((n : ℕ) → n < g .size → Paid g s n) → s .free ≡ [] → ⊥
-  slot-left X s u i h spare all e =
+  -- u has a link to spare: a slot is free, and the reserve is not spent
+  pub slot-left : (X : Set) (s : St) (u : ℕ) → Inside g X s → u < g .size → paid g s u < spends g s u → ((n : ℕ) → n < g .size → Paid g s n) → (s .free ≡ [] → ⊥) × (spent s ≡ false)
+  unfolding spent reserve
+  slot-left X s u i h spare all =
       let a = live-paid X s i in
       let c : total (paid g s) (g .size) + 1 ≤ reserved g (s .gone) = total-spare (paid g s) (spends g s) (g .size) u 1 h (omega arith) (λ n lo. all n lo .enough) in
       let f = i .fits in
-      let z = ap length e in
-      omega arith
+      let r : reserve s ≡ reserved g (s .gone) = ap (λ (z : Given). reserved z (s .gone)) (i .same) in
+      let k : s .room .slots ≡ g .room .slots = ap (λ (z : Given). z .room .slots) (i .same) in (
+        λ e. let z = ap length e in omega arith,
+        or-none (leb (reserve s + length (s .free)) (s .room .slots)) (ltb (s .room .slots) (reserve s)) (lt-leb (reserve s + length (s .free)) (s .room .slots) (omega arith)) (le-ltb (s .room .slots) (reserve s) (omega arith)),
+      )
+
+-- at rest
+pub room-at-rest : (s : St) → WellFormed s → (liveLinks s ≤ reserve s) × (reserve s ≤ s .room .slots)
+unfolding reserve
+room-at-rest s w =
+    let i = rest-inside s w in
+    live-reserved (given s) (static s w) nobody s i (λ n h. rests-paid (given s) (static s w) nobody s n i h (i .rests n h (λ z. z)))

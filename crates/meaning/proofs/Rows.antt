@@ -1,33 +1,34 @@
 -- A flush runs live effects only, none twice: its rows are at most the effects live at entry, and the rows of an accepted command fit the lent log. Assumes nothing.
 use mathlib.Core.Path.{_≡_, refl, sym, ap, ap₂, _∙_, subst}
-use mathlib.Core.Logic.{_⊎_, inl, inr}
-use mathlib.Core.Bool.{Bool, true, false, not}
+use mathlib.Core.Logic.{inl, inr}
+use mathlib.Core.Bool.{Bool, true, false}
 use mathlib.Core.List.{List, [], _∷_, _++_, append-assoc, append-nil}
 use mathlib.Core.Option.{Option, none, some}
-use Prim.Native.Nat.{ℕ, zero, suc, _+_, _≤_, _<_}
+use Prim.Native.Nat.{ℕ, zero, suc, _≤_, _<_}
 use native.Mathlib.Omega.{arith}
 use lib.Dec.{eqb}
 use lib.IntN.{ℤ, pos}
 use lib.ListN.{length, length-append}
-use borrow.Author.Tests.{eqb-true, eqb-false, ltb-false}
+use borrow.Author.Tests.{eqb-false, ltb-false}
 use Rattle.primitive.specs.declared.values.Value.{Value}
 use Rattle.primitive.specs.Values.{value, same}
-use Rattle.formula.specs.Trees.{Tree, constant}
-use Rattle.meaning.specs.State.{St, Kind, signal, computed, effect, scope, Row, f0, f1, f2, f6, f17, nothing}
+use Rattle.formula.specs.Trees.{constant}
+use Rattle.meaning.specs.State.{St, Kind, signal, effect, scope, Row, f0, f6, f17, nothing}
 use Rattle.meaning.specs.Setters.{withLog, withDepth, withQueue, setFl, setPend}
-use Rattle.meaning.specs.Links.{isNil, link}
+use Rattle.meaning.specs.Links.{isNil}
 use Rattle.meaning.specs.Marks.{propagate}
-use Rattle.meaning.specs.Reads.{Out, evaluate}
+use Rattle.meaning.specs.Reads.{evaluate}
 use Rattle.meaning.specs.Engine.{logged, run, flushOn, flush, flushAt, store, node, owned, newSignal, newComputed, newScope, newEffect, endAt}
 use Rattle.meaning.specs.Words.{Command, makeSignal, makeComputed, makeEffect, makeScope, setTo, addTo, readOf, disposeOf, batchStart, batchEnd, commandOf, nodeOf, ownerOf, formulaOf}
-use Rattle.meaning.specs.Refusals.{Sight, sightOf, aSignal, asksOf, unknown, wrongNode, total, effectOf, unlessGone, liveEffects, flushRows, wantedRows, fewRows, wrongDepth, table, refusal}
-use Rattle.meaning.specs.WellFormed.{In, Once, WellFormed}
+use Rattle.meaning.specs.Reserve.{total}
+use Rattle.meaning.specs.Refusals.{Sight, sightOf, aSignal, asksOf, unknown, wrongNode, effectOf, liveEffects, flushRows, wantedRows, fewRows, table, refusal}
+use Rattle.meaning.specs.WellFormed.{In, WellFormed}
 use Rattle.meaning.specs.Commands.{perform, performAny, answer, command, runs}
 use Rattle.meaning.proofs.Laws.{clash, false≢true, either, branch}
 use Rattle.meaning.proofs.Members.{most-marked}
 use Rattle.meaning.proofs.Rings.{dispose-ring, settle-ring, evaluate-ring}
 use Rattle.meaning.proofs.Still.{Given, given, Fixed, Still, link-still, drops-still, renews-still}
-use Rattle.meaning.proofs.Kept.{Keeps, run-keeps}
+use Rattle.meaning.proofs.Kept.{run-keeps}
 use Rattle.meaning.proofs.Flush.{Logs, run-logs, run-queues-nothing, Ran, end, quiet, ran, whos, ran-once, ran-in, no-flag-no-run}
 use Rattle.meaning.proofs.Refused.{NoneHolds, accepted-exactly}
 use Rattle.meaning.proofs.Inside.{nobody, Static, Inside, static, rest-inside}

@@ -4,31 +4,31 @@ use mathlib.Core.Logic.{_⊎_, inl, inr}
 use mathlib.Core.Bool.{Bool, true, false}
 use mathlib.Core.List.{List, [], _∷_, _++_, append-nil}
 use mathlib.Core.Option.{Option, none, some}
-use Prim.Native.Nat.{ℕ, zero, suc, _+_, _≤_, _<_}
+use Prim.Native.Nat.{ℕ, _+_, _≤_, _<_}
 use native.Mathlib.Omega.{arith}
 use lib.Dec.{eqb}
 use lib.ListN.{length}
 use borrow.Author.Tests.{eqb-true, eqb-false}
 use Rattle.primitive.specs.declared.flags.Named.{Named}
-use Rattle.formula.specs.Trees.{Tree, names}
-use Rattle.meaning.specs.State.{St, Kind, signal, computed, effect, scope, readable, deps, f0, f1, f2, f6, f32, f48, raised, up}
-use Rattle.meaning.specs.Setters.{setFl, withCycle, withQueue, withLog}
+use Rattle.formula.specs.Trees.{Tree}
+use Rattle.meaning.specs.State.{St, Kind, effect, readable, deps, f1, f2, f6, raised, up}
+use Rattle.meaning.specs.Setters.{setFl, withCycle, withQueue}
 use Rattle.meaning.specs.Links.{rewind, purge}
-use Rattle.meaning.specs.Reads.{Ans, Out, evalBy, readW, settleW, checkW, fresh, settle, check, evaluate}
+use Rattle.meaning.specs.Reads.{Out, evalBy, readW, fresh, settle, check, evaluate}
 use Rattle.meaning.specs.Marks.{isEffect}
 use Rattle.meaning.specs.Engine.{logged, rerun, run, flushOn}
-use Rattle.meaning.specs.Refusals.{reserveOf, ownedLink, unlessGone}
+use Rattle.meaning.specs.Reserve.{reserveOf, ownedLink}
 use Rattle.meaning.specs.WellFormed.{In, Once, readLinks, EffectFlags, watching, pushed, pending, dirty}
 use Rattle.meaning.proofs.Laws.{clash, false≢true, either, branch, up-same, up-other, in-left}
-use Rattle.meaning.proofs.Members.{nil-none, append-is-nil, reads-few, reads-agree}
+use Rattle.meaning.proofs.Members.{append-is-nil, reads-few, reads-agree}
 use Rattle.meaning.proofs.Rings.{purge-ring, evaluate-ring, check-ring}
-use Rattle.meaning.proofs.Still.{Given, given, Fixed, Still, drops-still, renews-still}
+use Rattle.meaning.proofs.Still.{Given, Fixed, Still, drops-still, renews-still}
 use Rattle.meaning.proofs.Flush.{run-queues-nothing}
-use Rattle.meaning.proofs.Inside.{Set, nobody, also, only, Static, Goes, AtRest, Rests, Inside, let-out, Under, under-same, never-back, owner-owns}
-use Rattle.meaning.proofs.Dropping.{aComputed, flags-inside, rewind-inside, Purged, purge-inside}
+use Rattle.meaning.proofs.Inside.{Set, nobody, also, Static, Goes, Rests, Inside, let-out, Under, under-same, never-back, owner-owns}
+use Rattle.meaning.proofs.Dropping.{flags-inside, rewind-inside, purge-inside}
 use Rattle.meaning.proofs.Room.{ownerLinks, spends, Paid, rests-paid}
 use Rattle.meaning.proofs.Frames.{others, Low, Frame, frame-flags, frame-same, frame-then, frame-wider, Open}
-use Rattle.meaning.proofs.Reading.{Freshens, Settled, settle-inside, Near, reads-of, During, eval-during}
+use Rattle.meaning.proofs.Reading.{settle-inside, Near, reads-of, During, eval-during}
 use Rattle.meaning.proofs.Updating.{Checked, check-inside, fresh-inside}
 
 -- well-formed inside, and not stuck unless it was

@@ -3,16 +3,15 @@ use mathlib.Core.Path.{_≡_, refl, sym, ap, _∙_, subst}
 use mathlib.Core.Logic.{_⊎_, inl, inr}
 use mathlib.Core.Bool.{Bool, true, false, not, _&&_, _||_}
 use mathlib.Core.List.{List, [], _∷_}
-use Prim.Native.Nat.{ℕ, suc, _≤_, _<_}
+use Prim.Native.Nat.{ℕ, _≤_, _<_}
 use native.Mathlib.Omega.{arith}
 use Rattle.primitive.specs.declared.flags.Named.{Named}
-use Rattle.meaning.specs.State.{St, Kind, signal, computed, effect, scope, readable, f0, f1, f2, f17, f32, f33, f48, f49, withDirty, up}
-use Rattle.meaning.specs.Setters.{withFl, withStuck}
+use Rattle.meaning.specs.State.{St, signal, readable, f0, f1, f2, f17, withDirty, up}
 use Rattle.meaning.specs.Marks.{soil, wakes, shallow}
 use Rattle.meaning.specs.WellFormed.{In, readLinks, ComputedFlags, never, clean, stale, maybe, dirty, EffectFlags, watching, pushed, pending, dirty as soiled}
-use Rattle.meaning.proofs.Laws.{clash, false≢true, either, branch, or-none, up-by}
-use Rattle.meaning.proofs.Still.{Given, given}
-use Rattle.meaning.proofs.Inside.{Set, Static, AtRest, Rests, Slots, Inside}
+use Rattle.meaning.proofs.Laws.{clash, false≢true, branch, or-false, or-none, up-by}
+use Rattle.meaning.proofs.Still.{Given}
+use Rattle.meaning.proofs.Inside.{Set, AtRest, Rests, Inside}
 use Rattle.meaning.proofs.Frames.{Soiled, Frame, was-link}
 
 -- ---- one node
@@ -135,10 +134,6 @@ module _ (g : Given) (X : Set) (s : St) (d : ℕ) (i : Inside g X s) where
   shallow-goes-on =
       ap (λ (b : Bool). s .stuck || b) (wakes-none (s .sub) (s .subs d) (s .fl) (λ l j. let x = i .lists .subs-live l d j in i .no-wake (s .sub l) (i .lists .inside l (x .0) .1)))
       ∙ or-false (s .stuck)
-    where
-      or-false : (b : Bool) → (b || false) ≡ b
-      or-false true = refl
-      or-false false = refl
 
   pub shallow-clean : (n : ℕ) → s .fl n ≡ f1 → shallow s d .fl n ≡ f1
   shallow-clean n e = turn-calm (s .sub) (s .subs d) n (s .fl n) _ (ap (λ (x : Named). x .pending) e) (turn n) ∙ e

@@ -11,7 +11,7 @@ use Rattle.primitive.specs.declared.values.Value.{Value}
 use Rattle.primitive.specs.Values.{same}
 use Rattle.meaning.specs.State.{St, effect, scope, f6, f17, nothing, unclean, recursing, deps}
 use Rattle.meaning.specs.Setters.{withDepth, withLog, setFl, setPend}
-use Rattle.meaning.specs.Links.{isNil, several, headOf, lastOf, goesTo, isFrom, renew, insert, link, cut, unlinkN}
+use Rattle.meaning.specs.Links.{isNil, several, headOf, lastOf, goesTo, isFrom, renew, spent, insert, link, cut, unlinkN}
 use Rattle.meaning.specs.Marks.{Marks, marksOf, halt, chain, effects, notify, mark, prop, propagate, wakes, shallow}
 use Rattle.meaning.specs.Reads.{Ans, updW, checkW, fresh}
 use Rattle.meaning.specs.Engine.{logged, flushOn, flushAt, store, node, owned, newSignal, newComputed, newScope, newEffect, endAt}
@@ -26,6 +26,11 @@ use Rattle.meaning.proofs.Rings.{Drops, Renews, Runs, dispose-ring, set
 pub no-slot : (s : St) (d u v : ℕ) → insert s d u v [] .stuck ≡ true
 unfolding insert
 no-slot s d u v = refl
+
+-- the reserve is spent
+pub no-reserve : (s : St) (d u v l : ℕ) (ls : List ℕ) → spent s ≡ true → insert s d u v (l ∷ ls) .stuck ≡ true
+unfolding insert
+no-reserve s d u v l ls h = or-last (s .stuck) (spent s) h
 
 -- a slot would be freed twice
 pub freed-twice : (k : ℕ) (s : St) (l : ℕ) → s .live l ≡ false → unlinkN (suc k) s l .stuck ≡ true
@@ -77,7 +82,7 @@ renew-sticks s u v (l ∷ ls) e = e
 insert-sticks : (s : St) (d u v : ℕ) (ls : List ℕ) → Sticks s (insert s d u v ls)
 unfolding insert
 insert-sticks s d u v [] e = refl
-insert-sticks s d u v (l ∷ ls) e = e
+insert-sticks s d u v (l ∷ ls) e = or-first (s .stuck) (spent s) e
 
 link-sticks : (s : St) (d u v : ℕ) → Sticks s (link s d u v)
 unfolding link

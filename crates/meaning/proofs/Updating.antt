@@ -9,22 +9,21 @@ use lib.Dec.{eqb}
 use lib.ListN.{length}
 use borrow.Author.Tests.{eq-eqb, eqb-true, eqb-false}
 use Rattle.primitive.specs.declared.flags.Named.{Named}
-use Rattle.primitive.specs.declared.values.Value.{Value}
 use Rattle.primitive.specs.Values.{same}
-use Rattle.formula.specs.Trees.{Tree, names}
-use Rattle.meaning.specs.State.{St, Kind, signal, computed, effect, scope, readable, deps, bare, f0, f1, f5, f6, f17, f33, withPending, raised, up}
+use Rattle.formula.specs.Trees.{Tree}
+use Rattle.meaning.specs.State.{St, Kind, signal, computed, effect, scope, readable, deps, bare, f0, f1, f5, f17, withPending, raised, up}
 use Rattle.meaning.specs.Setters.{setFl, setSto, withCycle}
 use Rattle.meaning.specs.Links.{isNil, several, rewind, purge}
 use Rattle.meaning.specs.Marks.{shallow}
-use Rattle.meaning.specs.Reads.{Ans, ans, Out, evalBy, readW, evaluateW, firstW, updComputed, updSignal, updW, sameSlots, steady, checkOn, checkW, pendingW, freshW, fresh}
+use Rattle.meaning.specs.Reads.{Ans, ans, Out, evalBy, readW, firstW, updComputed, updSignal, updW, sameSlots, steady, checkOn, checkW, pendingW, freshW, fresh}
 use Rattle.meaning.specs.WellFormed.{In, readLinks, ComputedFlags, never, clean, stale, maybe, dirty}
 use Rattle.meaning.proofs.Laws.{clash, false≢true, either, branch, up-same, up-other, up-by, in-left, in-right, in-cases}
-use Rattle.meaning.proofs.Members.{nil-none, isNil-true, isNil-false, append-is-nil, reads-few}
-use Rattle.meaning.proofs.Still.{Given, given}
-use Rattle.meaning.proofs.Inside.{Set, also, Static, Goes, AtRest, Rests, Inside, widen, let-out, read-moves, moves-read, Under}
-use Rattle.meaning.proofs.Dropping.{aComputed, flags-inside, rewind-inside, Purged, purge-inside}
+use Rattle.meaning.proofs.Members.{nil-none, isNil-true, append-is-nil, reads-few}
+use Rattle.meaning.proofs.Still.{Given}
+use Rattle.meaning.proofs.Inside.{Set, also, Static, Goes, Rests, Inside, widen, let-out, read-moves, moves-read, Under}
+use Rattle.meaning.proofs.Dropping.{aComputed, flags-inside, rewind-inside, purge-inside}
 use Rattle.meaning.proofs.Room.{ownerLinks, spends, Paid}
-use Rattle.meaning.proofs.Frames.{others, Low, Soiled, Frame, frame-flags, frame-same, frame-then, frame-wider, paid-frame, Open, open-frame, rests-clean, signal-lists, purge-frame}
+use Rattle.meaning.proofs.Frames.{others, Low, Soiled, Frame, frame-flags, frame-same, frame-then, frame-wider, paid-frame, Open, open-frame, rests-clean, purge-frame}
 use Rattle.meaning.proofs.Soiling.{shallow-inside, shallow-frame}
 use Rattle.meaning.proofs.Reading.{Above, Freshened, Freshens, Near, reads-of, During, eval-during}
 

@@ -1,6 +1,6 @@
 -- Propagate ends in time: each link is visited at most once, and a list is put aside only at a node that is marked then. A write keeps well-formedness and is not stuck. Assumes nothing.
-use mathlib.Core.Path.{_≡_, refl, sym, ap, ap₂, _∙_, subst}
-use mathlib.Core.Logic.{_⊎_, inl, inr}
+use mathlib.Core.Path.{_≡_, refl, sym, ap, ap₂, _∙_}
+use mathlib.Core.Logic.{inl, inr}
 use mathlib.Core.Bool.{Bool, true, false, _||_}
 use mathlib.Core.List.{List, [], _∷_, _++_}
 use Prim.Native.Nat.{ℕ, zero, suc, _+_, _≤_, _<_}
@@ -11,18 +11,18 @@ use borrow.Author.Tests.{eqb-true, eqb-false, lt-leb}
 use Rattle.primitive.specs.declared.flags.Named.{Named}
 use Rattle.primitive.specs.declared.values.Value.{Value}
 use Rattle.primitive.specs.Values.{same}
-use Rattle.meaning.specs.State.{St, Kind, signal, computed, effect, scope, readable, unclean, recursing, f1, f17, up}
+use Rattle.meaning.specs.State.{St, signal, readable, unclean, recursing, f17, up}
 use Rattle.meaning.specs.Setters.{setFl, setPend}
 use Rattle.meaning.specs.Links.{isNil, several}
 use Rattle.meaning.specs.Marks.{Marks, marksOf, withMarks, halt, notify, mark, prop, propagate}
-use Rattle.meaning.specs.Engine.{flush, flushAt, store}
-use Rattle.meaning.specs.Refusals.{total}
-use Rattle.meaning.specs.WellFormed.{In, Once}
-use Rattle.meaning.proofs.Laws.{clash, false≢true, either, branch, or-last, up-same, up-other, in-left, in-right, in-cases}
-use Rattle.meaning.proofs.Members.{isNil-false, most-below, gather, gather-length, gather-in, gather-once, total-least, total-spare}
-use Rattle.meaning.proofs.Still.{Given, given}
+use Rattle.meaning.specs.Engine.{flushAt, store}
+use Rattle.meaning.specs.Reserve.{total}
+use Rattle.meaning.specs.WellFormed.{In}
+use Rattle.meaning.proofs.Laws.{clash, false≢true, either, branch, or-false, or-last, up-same, in-cases}
+use Rattle.meaning.proofs.Members.{most-below, gather, gather-length, gather-in, gather-once, total-spare}
+use Rattle.meaning.proofs.Still.{Given}
 use Rattle.meaning.proofs.Reached.{mark-dirty, mark-here, mark-there}
-use Rattle.meaning.proofs.Inside.{Set, nobody, also, Static, Goes, AtRest, Rests, Slots, Inside, widen, let-out, moves-read}
+use Rattle.meaning.proofs.Inside.{nobody, also, Static, Rests, Slots, Inside, widen, let-out, moves-read}
 use Rattle.meaning.proofs.Dropping.{aComputed, flags-inside}
 use Rattle.meaning.proofs.Frames.{others}
 use Rattle.meaning.proofs.Running.{Goes-on, flush-inside}
@@ -54,10 +54,6 @@ falls s m u n c h e =
     (λ k l. either (eqb k u)
     (λ q. let a : unless (unclean (mark s m u .fl k)) (c k) ≡ 0 = ap (λ (b : Bool). unless b (c k)) (or-last (mark s m u .fl k .dirty) _ (mark-here s m u k (eqb-true k u q))) in omega arith)
     (λ q. let a = ap (λ (b : Bool). unless b (c k)) (ap₂ (λ (x y : Bool). x || y) (mark-dirty s m u k) (mark-there s m u k (eqb-false k u q))) in omega arith))
-
-or-false : (b : Bool) → (b || false) ≡ b
-or-false true = refl
-or-false false = refl
 
 module _ (g : Given) (st : Static g) (s : St) where
   -- a live read link

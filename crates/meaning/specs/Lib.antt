@@ -1,5 +1,6 @@
 pub mod State
 pub mod Setters
+pub mod Reserve
 pub mod Links
 pub mod Marks
 pub mod Reads

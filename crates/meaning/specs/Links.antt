@@ -1,10 +1,12 @@
 -- Making and taking away links: link, and the ring of unlink, unwatched, dispose and purge.
-use mathlib.Core.Bool.{Bool, true, false, not, _&&_}
+use mathlib.Core.Bool.{Bool, true, false, not, _&&_, _||_}
 use mathlib.Core.List.{List, [], _∷_, _++_}
 use mathlib.Core.Option.{Option, none, some}
-use Prim.Native.Nat.{ℕ, zero, suc}
-use lib.Dec.{eqb}
+use Prim.Native.Nat.{ℕ, zero, suc, _+_}
+use lib.Dec.{eqb, leb, ltb}
+use lib.ListN.{length}
 use Rattle.meaning.specs.State.{St, f0, f17}
+use Rattle.meaning.specs.Reserve.{reserve}
 use Rattle.meaning.specs.Setters.{withFree, withStuck, setDone, setRest, setSubs, setLive, setDep, setSub, setVer, setFl, setGone}
 
 -- the operation cannot go on
@@ -52,11 +54,15 @@ unfoldable pub renew : St → ℕ → ℕ → List ℕ → St
 renew s u v [] = stop s
 renew s u v (l ∷ ls) = setRest (setDone (setVer s l v) u (s .done u ++ l ∷ [])) u ls
 
--- a new link at the cursor, in the slot that was freed last; stuck if none is free
+-- as many links are live as the reserve allows, or it exceeds the link slots
+unfoldable pub spent : St → Bool
+spent s = leb (reserve s + length (s .free)) (s .room .slots) || ltb (s .room .slots) (reserve s)
+
+-- a new link at the cursor, in the slot that was freed last; stuck if none is free, or the reserve is spent
 unfoldable pub insert : St → ℕ → ℕ → ℕ → List ℕ → St
 insert s d u v [] = stop s
 insert s d u v (l ∷ ls) =
-    setSubs (setDone (setVer (setSub (setDep (setLive (withFree s ls) l true) l d) l u) l v) u (s .done u ++ l ∷ [])) d (s .subs d ++ l ∷ [])
+    withStuck (setSubs (setDone (setVer (setSub (setDep (setLive (withFree s ls) l true) l d) l u) l v) u (s .done u ++ l ∷ [])) d (s .subs d ++ l ∷ [])) (s .stuck || spent s)
 
 -- the link before the cursor goes to d; the one after it does; the newest of d is of u at this version; else a new one
 unfoldable pub link : St → ℕ → ℕ → ℕ → St

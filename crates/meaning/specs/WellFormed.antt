@@ -12,7 +12,8 @@ use Rattle.formula.specs.Trees.{Tree, size, nesting, names}
 use Rattle.formula.specs.Legal.{mostCells, mostNesting}
 use Rattle.meaning.specs.State.{St, Kind, signal, computed, effect, scope, Room, readable, rank, deps, f0, f1, f2, f17, f32, f33, f48, f49}
 use Rattle.meaning.specs.Engine.{levelOf}
-use Rattle.meaning.specs.Refusals.{mostLevel, mostDepth, reserve}
+use Rattle.meaning.specs.Reserve.{reserve}
+use Rattle.meaning.specs.Refusals.{mostLevel, mostDepth}
 
 -- n stands in the list
 abbrev pub In : ℕ → List ℕ → Type 0
