@@ -19,7 +19,7 @@ use Rattle.meaning.specs.WellFormed.{In, Once, Lists, readLinks, Compute
 use Rattle.meaning.proofs.Laws.{clash, false≢true, either, none-some, branch, up-same, up-other, up-by, in-right}
 use Rattle.meaning.proofs.Members.{remove-in, in-remove, remove-absent, remove-head, remove-once, remove-append, none-nil, nil-none, isNil-true, isNil-false, append-is-nil, once-right, once-apart, most-below, total-least, reads-remove}
 use Rattle.meaning.proofs.Still.{Given}
-use Rattle.meaning.proofs.Inside.{Set, nobody, also, Static, Goes, AtRest, Rests, Slots, Inside, widen, let-out, at-same, read-moves, moves-read, Under, under-same, under-then, goes-under, never-back, owner-owns}
+use Rattle.meaning.proofs.Inside.{Set, nobody, also, only, Static, Goes, AtRest, Rests, Slots, Inside, widen, let-out, at-same, read-moves, moves-read, Under, under-same, under-then, goes-under, never-back, owner-owns}
 
 -- ---- a link is cut
 module _ (g : Given) (X : Set) (s : St) (l : ℕ) (i : Inside g X s) (lv : s .live l ≡ true) where
@@ -243,6 +243,48 @@ dropped-reset N u n s f b nn none-here same t e₁ e₂ e₃ e₄ e₅ e₆ e₇
     away : (m : ℕ) → (N m → ⊥) → m ≡ n → ⊥
     away m a q = a (subst N (sym q) nn)
 
+-- ---- whose links the ring leaves alone: all but those of E, and of nodes that fall, which are gone or have MUTABLE
+abbrev pub Fallen : St → ℕ → Type 0
+Fallen t m = (t .gone m ≡ true) ⊎ (t .fl m .mutable ≡ true)
+
+abbrev pub SameLists : St → St → ℕ → Type 0
+SameLists s t m = (t .done m ≡ s .done m) × (t .rest m ≡ s .rest m)
+
+pub record Spares (E : Set) (s t : St) : Type 0 where
+  pub safe : (m : ℕ) → (E m → ⊥) → SameLists s t m ⊎ Fallen t m
+  pub fallen : (m : ℕ) → Fallen s m → Fallen t m
+
+spares-same : (E : Set) (s : St) → Spares E s s
+spares-same E s = record { safe = λ m h. inl (refl, refl); fallen = λ m f. f }
+
+spares-then : (E : Set) (s t x : St) → Spares E s t → Spares E t x → Spares E s x
+spares-then E s t x p q = record { safe = λ m h. go m (p .safe m h) (q .safe m h); fallen = λ m f. q .fallen m (p .fallen m f) }
+  where
+    go : (m : ℕ) → SameLists s t m ⊎ Fallen t m → SameLists t x m ⊎ Fallen x m → SameLists s x m ⊎ Fallen x m
+    go m (inl a) (inl b) = inl (b .0 ∙ a .0, b .1 ∙ a .1)
+    go m (inl a) (inr f) = inr f
+    go m (inr f) b = inr (q .fallen m f)
+
+-- a node that has fallen may lose its links
+spares-over : (s t x : St) (n : ℕ) → Spares nobody s t → Fallen t n → Spares (only n) t x → Spares nobody s x
+spares-over s t x n p f q = record { safe = λ m h. either (eqb m n) (λ e. inr (q .fallen m (subst (Fallen t) (sym (eqb-true m n e)) f))) (λ e. go m (p .safe m h) (q .safe m (eqb-false m n e))); fallen = λ m z. q .fallen m (p .fallen m z) }
+  where
+    go : (m : ℕ) → SameLists s t m ⊎ Fallen t m → SameLists t x m ⊎ Fallen x m → SameLists s x m ⊎ Fallen x m
+    go m (inl a) (inl b) = inl (b .0 ∙ a .0, b .1 ∙ a .1)
+    go m (inl a) (inr z) = inr z
+    go m (inr z) b = inr (q .fallen m z)
+
+-- one node falls
+spares-reset : (s t : St) (n : ℕ) → ((m : ℕ) → (m ≡ n → ⊥) → SameLists s t m × (t .fl m ≡ s .fl m) × (t .gone m ≡ s .gone m)) → Fallen t n → Spares nobody s t
+spares-reset s t n same f = record {
+  safe = λ m h. either (eqb m n) (λ e. inr (subst (Fallen t) (sym (eqb-true m n e)) f)) (λ e. inl (same m (eqb-false m n e) .0));
+  fallen = λ m z. either (eqb m n) (λ e. subst (Fallen t) (sym (eqb-true m n e)) f) (λ e. keep m (same m (eqb-false m n e)) z);
+}
+  where
+    keep : (m : ℕ) → SameLists s t m × (t .fl m ≡ s .fl m) × (t .gone m ≡ s .gone m) → Fallen s m → Fallen t m
+    keep m p (inl a) = inl (p .2 ∙ a)
+    keep m p (inr a) = inr (ap (λ (z : Named). z .mutable) (p .1) ∙ a)
+
 abbrev headOr : List ℕ → ℕ
 headOr [] = 0
 headOr (x ∷ xs) = x
@@ -278,12 +320,14 @@ module _ (g : Given) (st : Static g) where
   pub record Unlinked (X : Set) (s : St) (l : ℕ) (t : St) : Type 0 where
     pub inside : Inside g X t
     pub dropped : Dropped (Under g (s .dep l)) (s .sub l) s t
+    pub spares : Spares (only (s .sub l)) s t
     pub done : t .done (s .sub l) ≡ remove l (s .done (s .sub l))
     pub rest : t .rest (s .sub l) ≡ remove l (s .rest (s .sub l))
 
   pub record Purged (X : Set) (s : St) (u : ℕ) (t : St) : Type 0 where
     pub inside : Inside g X t
     pub dropped : Dropped (Strict u) u s t
+    pub spares : Spares (only u) s t
     pub done : t .done u ≡ s .done u
     pub rest : t .rest u ≡ []
 
@@ -295,7 +339,7 @@ module _ (g : Given) (st : Static g) where
   module _ (k : ℕ) (ul : St → ℕ → St) (uls : Unlinks k ul) where
     purge-all : (X : Set) (u : ℕ) → X u → ((m : ℕ) → Strict u m → X m → ⊥) → (ls : List ℕ) (s : St) → Inside g X s → s .rest u ≡ ls → g .room .slots ≤ k + length (s .free) → Purged X s u (each ul s ls)
     unfolding each
-    purge-all X u xu apart [] s i e b = record { inside = i; dropped = dropped-same (Strict u) u s; done = refl; rest = e }
+    purge-all X u xu apart [] s i e b = record { inside = i; dropped = dropped-same (Strict u) u s; spares = spares-same (only u) s; done = refl; rest = e }
     purge-all X u xu apart (l ∷ ls) s i e b =
         let in-deps : In l (deps s u) = in-right l (s .done u) (s .rest u) (subst (In l) (sym e) (inl refl)) in
         let lu = i .lists .deps-live l u in-deps in
@@ -316,13 +360,14 @@ module _ (g : Given) (st : Static g) where
         record {
           inside = n .inside;
           dropped = dropped-then (Strict u) u s t _ (dropped-wider (Under g (s .dep l)) (Strict u) (s .sub l) u s t below (λ x. su) (r .dropped)) (n .dropped);
+          spares = spares-then (only u) s t _ (subst (λ (z : ℕ). Spares (only z) s t) su (r .spares)) (n .spares);
           done = n .done ∙ done-now;
           rest = n .rest;
         }
 
     -- x has no subscriber: it goes with all it owns
     dispose-bare : (X : Set) (s : St) (x v : ℕ) → Inside g (also X x) s → x < g .size → readable (g .kind x) ≡ false → s .subs x ≡ [] → ((m : ℕ) → Under g x m → X m → ⊥)
-        → g .room .slots ≤ k + length (s .free) → Inside g X (disposeW ul s x) × Dropped (Under g x) v s (disposeW ul s x)
+        → g .room .slots ≤ k + length (s .free) → Inside g X (disposeW ul s x) × Dropped (Under g x) v s (disposeW ul s x) × Spares nobody s (disposeW ul s x)
     unfolding disposeW lastLink
     dispose-bare X s x v i h r e apart b =
         let a = setGone (setFl (rewind s x) x f0) x true in
@@ -338,7 +383,9 @@ module _ (g : Given) (st : Static g) where
         let it : Inside g X t = let-out g X t x (p .inside) (rests-gone g (t .queue) (t .dep) (t .sub) x (t .fl x) (t .gone x) (t .done x) (t .rest x) (t .subs x) r flag gone done (p .rest) bare) in
         let first : Dropped (Under g x) v s a = dropped-reset (Under g x) v x s f0 (up (s .gone) x true) (under-same g st x) e (λ m q. up-other (s .gone) x true m q) a refl refl refl refl refl refl refl refl refl in
         let then : Dropped (Under g x) v a t = dropped-wider (Strict x) (Under g x) x v a t (λ m z. z .0) (λ z. absurd (z (under-same g st x))) d in
-        subst (λ (q : List ℕ). Inside g X (lastLink ul t (headOf q)) × Dropped (Under g x) v s (lastLink ul t (headOf q))) (sym bare) (it, dropped-then (Under g x) v s a t first then)
+        let begins : Spares nobody s a = spares-reset s a x (λ m q. ((up-other (s .done) x [] m q, up-other (s .rest) x (s .done x ++ s .rest x) m q), up-other (s .fl) x f0 m q, up-other (s .gone) x true m q)) (inl (up-same (s .gone) x true)) in
+        let spared : Spares nobody s t = spares-over s a t x begins (inl (up-same (s .gone) x true)) (p .spares) in
+        subst (λ (q : List ℕ). Inside g X (lastLink ul t (headOf q)) × Dropped (Under g x) v s (lastLink ul t (headOf q)) × Spares nobody s (lastLink ul t (headOf q))) (sym bare) (it, dropped-then (Under g x) v s a t first then, spared)
       where
         away : (m : ℕ) → Strict x m → also X x m → ⊥
         away m p (inl q) = apart m (p .0) q
@@ -350,13 +397,13 @@ module _ (g : Given) (st : Static g) where
     -- d has lost its last subscriber; before, it was at rest, with flags f, and had one
     unwatched-inside : (X : Set) (s : St) (d v l : ℕ) (before : List ℕ) → Inside g (also X d) s → d < g .size → s .subs d ≡ [] → In l before
         → AtRest g (s .queue) (s .dep) (s .sub) d (s .fl d) (s .gone d) (s .done d) (s .rest d) before
-        → ((m : ℕ) → Under g d m → X m → ⊥) → g .room .slots ≤ k + length (s .free) → Inside g X (unwatchedW ul s d) × Dropped (Under g d) v s (unwatchedW ul s d)
+        → ((m : ℕ) → Under g d m → X m → ⊥) → g .room .slots ≤ k + length (s .free) → Inside g X (unwatchedW ul s d) × Dropped (Under g d) v s (unwatchedW ul s d) × Spares nobody s (unwatchedW ul s d)
     unfolding unwatchedW readLinks
     unwatched-inside X s d v l before i h e has r apart b =
-        branch (λ (x : St). Inside g X x × Dropped (Under g d) v s x) (s .fl d .mutable)
+        branch (λ (x : St). Inside g X x × Dropped (Under g d) v s x × Spares nobody s x) (s .fl d .mutable)
         (λ m. let rd = moves-read g (s .queue) (s .dep) (s .sub) d _ _ _ _ _ r m in
-        branch (λ (x : St). Inside g X x × Dropped (Under g d) v s x) (isNil (s .done d))
-        (λ z. (let-out g X s d i (stays rd), dropped-same (Under g d) v s))
+        branch (λ (x : St). Inside g X x × Dropped (Under g d) v s x × Spares nobody s x) (isNil (s .done d))
+        (λ z. (let-out g X s d i (stays rd), dropped-same (Under g d) v s, spares-same nobody s))
         (λ z. falls rd (isNil-false (s .done d) z)))
         (λ m. dispose-bare X s d v i h (owns m) e apart b)
       where
@@ -398,7 +445,7 @@ module _ (g : Given) (st : Static g) where
         away m p (inl q) = apart m (p .0) q
         away m p (inr q) = p .1 q
 
-        falls : readable (g .kind d) ≡ true → (s .done d ≡ [] → ⊥) → Inside g X (purgeW ul (setFl (rewind s d) d f17) d) × Dropped (Under g d) v s (purgeW ul (setFl (rewind s d) d f17) d)
+        falls : readable (g .kind d) ≡ true → (s .done d ≡ [] → ⊥) → Inside g X (purgeW ul (setFl (rewind s d) d f17) d) × Dropped (Under g d) v s (purgeW ul (setFl (rewind s d) d f17) d) × Spares nobody s (purgeW ul (setFl (rewind s d) d f17) d)
         falls rd ne =
             let a = setFl (rewind s d) d f17 in
             let ia : Inside g (also X d) a = flags-inside g (also X d) (rewind s d) d (rewind-inside g (also X d) s d i (inr refl)) (inr refl) f17 (λ q. refl) in
@@ -424,7 +471,9 @@ module _ (g : Given) (st : Static g) where
             } in
             let first : Dropped (Under g d) v s a = dropped-reset (Under g d) v d s f17 (s .gone) (under-same g st d) e (λ m q. refl) a refl refl refl refl refl refl refl refl refl in
             let then : Dropped (Under g d) v a t = dropped-wider (Strict d) (Under g d) d v a t (λ m z. z .0) (λ z. absurd (z (under-same g st d))) dr in
-            (let-out g X t d (p .inside) rt, dropped-then (Under g d) v s a t first then)
+            let down : Fallen a d = inr (ap (λ (z : Named). z .mutable) (up-same (s .fl) d f17)) in
+            let begins : Spares nobody s a = spares-reset s a d (λ m q. ((up-other (s .done) d [] m q, up-other (s .rest) d (s .done d ++ s .rest d) m q), up-other (s .fl) d f17 m q, refl)) down in
+            (let-out g X t d (p .inside) rt, dropped-then (Under g d) v s a t first then, spares-over s a t d begins down (p .spares))
 
   -- ---- the recursion
   module _ (X : Set) (s : St) (l : ℕ) (i : Inside g X s) (lv : s .live l ≡ true) (xu : X (s .sub l)) (apart : (m : ℕ) → Under g (s .dep l) m → X m → ⊥) where
@@ -502,7 +551,11 @@ module _ (g : Given) (st : Static g) where
         go (maybe x y) = maybe x y
         go (dirty x y) = dirty x y
 
-    unlinked : (t : St) → Inside g X t × Dropped (Under g (s .dep l)) (s .dep l) (cut s l) t → Unlinked X s l t
+    cut-spares : Spares (only (s .sub l)) s (cut s l)
+    unfolding cut
+    cut-spares = record { safe = λ m h. inl (up-other (s .done) (s .sub l) (remove l (s .done (s .sub l))) m h, up-other (s .rest) (s .sub l) (remove l (s .rest (s .sub l))) m h); fallen = λ m f. f }
+
+    unlinked : (t : St) → Inside g X t × Dropped (Under g (s .dep l)) (s .dep l) (cut s l) t × Spares nobody (cut s l) t → Unlinked X s l t
     unlinked t p =
         let far : Under g (s .dep l) (s .sub l) → ⊥ = never-back g st (s .dep l) (s .sub l) (i .lists .inside l lv .0) (i .goes l lv) in
         let keeps = p .1 .lists (s .sub l) far (λ q. not-own (sym q)) in
@@ -510,6 +563,7 @@ module _ (g : Given) (st : Static g) where
         record {
           inside = p .0;
           dropped = dropped-then (Under g (s .dep l)) (s .sub l) s (cut s l) t cut-dropped then;
+          spares = spares-then (only (s .sub l)) s (cut s l) t cut-spares (record { safe = λ m h. p .2 .safe m (λ z. z); fallen = p .2 .fallen });
           done = keeps .0 ∙ cut-done .0;
           rest = keeps .1 ∙ cut-done .1;
         }
@@ -527,7 +581,7 @@ module _ (g : Given) (st : Static g) where
       (λ v. branch (Unlinked X s l) (isNil (c .subs d))
       (λ e. unlinked X s l i lv xu apart (unwatchedW (unlinkN k) c d)
       (unwatched-inside k (unlinkN k) (unlink-inside k) X c d d l (s .subs d) ic (i .lists .inside l lv .0) (isNil-true (c .subs d) e) (i .lists .live-in-subs l lv) (was X s l i lv xu apart) apart in-time))
-      (λ e. unlinked X s l i lv xu apart c (let-out g X c d ic (left X s l i lv xu apart (isNil-false (c .subs d) e)), dropped-same (Under g d) d c)))
+      (λ e. unlinked X s l i lv xu apart c (let-out g X c d ic (left X s l i lv xu apart (isNil-false (c .subs d) e)), dropped-same (Under g d) d c, spares-same nobody c)))
       (λ v. clash lv v)
 
   -- ---- purge

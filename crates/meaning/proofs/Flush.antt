@@ -58,15 +58,18 @@ Logs s e t = (t .log ≡ s .log) ⊎ ((r : Row) × (r .who ≡ e) × (t .log ≡
 log-still : (s t : St) → Still s t → t .log ≡ s .log
 log-still s t p = ap (λ (f : Fixed). f .log) (p .same)
 
-rerun-logs : (s : St) (e : ℕ) → Logs s e (rerun s e)
+pub rerun-row : (s : St) (e : ℕ) → (r : Row) × (r .who ≡ e) × (rerun s e .log ≡ s .log ++ r ∷ [])
 unfolding rerun logged
-rerun-logs s e =
+rerun-row s e =
     let t = setFl (rewind (withCycle s (raised (s .cycle))) e) e f6 in
     let o = evaluate t e in
     let y = setFl (logged o e) e f2 in
     let r : Row = record { who = e; worth = o .val; reads = o .reads } in
     let p : o .st .log ≡ s .log = log-still t (o .st) (evaluate-ring Still renews-still t e) in
-    inr (r, refl, log-still y (purge y e) (purge-ring Still drops-still y e) ∙ ap (λ (l : List Row). l ++ r ∷ []) p)
+    (r, refl, log-still y (purge y e) (purge-ring Still drops-still y e) ∙ ap (λ (l : List Row). l ++ r ∷ []) p)
+
+rerun-logs : (s : St) (e : ℕ) → Logs s e (rerun s e)
+rerun-logs s e = inr (rerun-row s e)
 
 after-check : (s t x : St) (e : ℕ) → t .log ≡ s .log → Logs t e x → Logs s e x
 after-check s t x e p (inl q) = inl (q ∙ p)

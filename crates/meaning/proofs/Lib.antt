@@ -29,3 +29,4 @@ pub mod Walking
 pub mod Made
 pub mod Accepted
 pub mod Rows
+pub mod Binding

@@ -263,6 +263,16 @@ module _ (kind : ℕ → Kind) (dep : ℕ → ℕ) where
       other f e (inl q) = clash (subst (λ (z : ℕ). readable (kind (dep z)) ≡ true) q r) e
       other f e (inr j) = f j
 
+  pub reads-sub : (x : ℕ) (xs : List ℕ) → In x (readLinks kind dep xs) → In x xs
+  unfolding readLinks
+  reads-sub x (y ∷ ys) i =
+      let rec : In x (readLinks kind dep ys) → In x ys = λ j. reads-sub x ys j in
+      branch (λ (z : List ℕ). In x z → In x (y ∷ ys)) (readable (kind (dep y))) (λ e. both rec) (λ e j. inr (rec j)) i
+    where
+      both : (In x (readLinks kind dep ys) → In x ys) → In x (y ∷ readLinks kind dep ys) → In x (y ∷ ys)
+      both f (inl q) = inl q
+      both f (inr j) = inr (f j)
+
   -- a link that is no read link goes: the read links stay
   pub reads-remove : (l : ℕ) (xs : List ℕ) → readable (kind (dep l)) ≡ false → readLinks kind dep (remove l xs) ≡ readLinks kind dep xs
   unfolding readLinks remove

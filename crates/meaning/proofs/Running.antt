@@ -7,11 +7,11 @@ use mathlib.Core.Option.{Option, none, some}
 use Prim.Native.Nat.{ℕ, _+_, _≤_, _<_}
 use native.Mathlib.Omega.{arith}
 use lib.Dec.{eqb}
-use lib.ListN.{length}
+use lib.ListN.{length, length-append}
 use borrow.Author.Tests.{eqb-true, eqb-false}
 use Rattle.primitive.specs.declared.flags.Named.{Named}
 use Rattle.formula.specs.Trees.{Tree}
-use Rattle.meaning.specs.State.{St, Kind, effect, readable, deps, f1, f2, f6, raised, up}
+use Rattle.meaning.specs.State.{St, Kind, effect, Row, readable, deps, f1, f2, f6, raised, up}
 use Rattle.meaning.specs.Setters.{setFl, withCycle, withQueue}
 use Rattle.meaning.specs.Links.{rewind, purge}
 use Rattle.meaning.specs.Reads.{Out, evalBy, readW, fresh, settle, check, evaluate}
@@ -23,11 +23,12 @@ use Rattle.meaning.proofs.Laws.{clash, false≢true, either, branch, up
 use Rattle.meaning.proofs.Members.{append-is-nil, reads-few, reads-agree}
 use Rattle.meaning.proofs.Rings.{purge-ring, evaluate-ring, check-ring}
 use Rattle.meaning.proofs.Still.{Given, Fixed, Still, drops-still, renews-still}
-use Rattle.meaning.proofs.Flush.{run-queues-nothing}
+use Rattle.meaning.proofs.Flush.{run-queues-nothing, rerun-row}
 use Rattle.meaning.proofs.Inside.{Set, nobody, also, Static, Goes, Rests, Inside, let-out, Under, under-same, never-back, owner-owns}
 use Rattle.meaning.proofs.Dropping.{flags-inside, rewind-inside, purge-inside}
 use Rattle.meaning.proofs.Room.{ownerLinks, spends, Paid, rests-paid}
 use Rattle.meaning.proofs.Frames.{others, Low, Frame, frame-flags, frame-same, frame-then, frame-wider, Open}
+use Rattle.meaning.proofs.Binding.{SameReads, reads-then, frame-reads, purge-reads}
 use Rattle.meaning.proofs.Reading.{settle-inside, Near, reads-of, During, eval-during}
 use Rattle.meaning.proofs.Updating.{Checked, check-inside, fresh-inside}
 
@@ -125,6 +126,10 @@ module _ (g : Given) (st : Static g) where
           alive = f .gone e re ∙ l .alive;
         }
 
+    -- other effects that are still live keep their read links
+    abbrev Others : St → St → Type 0
+    Others s t = (m : ℕ) → m < g .size → g .kind m ≡ effect → (m ≡ e → ⊥) → t .gone m ≡ false → SameReads (g .kind) s t m
+
     -- ---- the run itself, from s₁, where e has flags 6 and its cursor before its first link
     module _ (s s₁ : St) (i : Inside g (Run e) s) (l : Owns s e) (i₁ : Inside g (Run e) s₁) (f₁ : Frame g (Near g st e) e s s₁) (empty : s₁ .done e ≡ []) (left : length (readLinks (g .kind) (s₁ .dep) (s₁ .rest e)) ≤ reads-of g st e) where
       begin : During g st (Run e) e s₁ 0 s₁
@@ -195,7 +200,19 @@ module _ (g : Given) (st : Static g) where
         stuck = f-went .stuck;
       }
 
-      pub later-run : (In e (s₁ .queue) → ⊥) → Goes-on g nobody s (purge ended e)
+      -- other effects keep their read links
+      went-reads : (m : ℕ) → g .kind m ≡ effect → (m ≡ e → ⊥) → SameReads (g .kind) s (o .st) m
+      went-reads m k ne = frame-reads g st (Run e) (Near g st e) e s (o .st) m i f-went (λ z. off z)
+        where
+          off : Near g st e m → ⊥
+          off (inl p) = clash (ap isEffect k) (ap isEffect (p .0))
+          off (inr q) = ne q
+
+      pub first-reads : (m : ℕ) → g .kind m ≡ effect → (m ≡ e → ⊥) → SameReads (g .kind) s ended m
+      unfolding logged
+      first-reads m k ne = let r = went-reads m k ne in record { links = r .links; ends = r .ends }
+
+      later-run : (In e (s₁ .queue) → ⊥) → Goes-on g nobody s (purge ended e) × Others s (purge ended e)
       unfolding logged
       later-run nq =
           let p = purge-inside g st (Run e) ended e i-ended (inr refl) apart in
@@ -210,17 +227,20 @@ module _ (g : Given) (st : Static g) where
           } in
           let few : length (readLinks (g .kind) (t .dep) (t .done e)) ≤ reads-of g st e =
           let a = reads-few (g .kind) (t .dep) (t .done e) in let b = went .few in let c = ap (λ (x : List ℕ). length x) (p .done) in omega arith in
-          record {
+          (record {
             inside = let-out g nobody t e (p .inside)
                 (lies-rests t (record { owns = own; tail = p .rest; few = few })
                 (λ j. nq (subst (In e) (queue-still ended t (purge-ring Still drops-still ended e) ∙ queue-went) j)) (d .flags e outside .0 ∙ up-same (o .st .fl) e f2));
             stuck = d .stuck ∙ f-went .stuck;
-          }
+          }, λ m h k ne a. reads-then (g .kind) s ended t m (first-reads m k ne) (purge-reads g st (Run e) ended t e m p h k (off m ne) ne a))
         where
+          off : (m : ℕ) → (m ≡ e → ⊥) → Run e m → ⊥
+          off m ne (inr q) = ne q
+
           apart : (m : ℕ) → Under g e m × (m ≡ e → ⊥) → Run e m → ⊥
           apart m p (inr q) = p .1 q
 
-    rerun-inside : (s : St) → Inside g (Run e) s → Lies s e → s .fl e .pending ≡ true → (In e (s .queue) → ⊥) → Goes-on g nobody s (rerun s e)
+    rerun-inside : (s : St) → Inside g (Run e) s → Lies s e → s .fl e .pending ≡ true → (In e (s .queue) → ⊥) → Goes-on g nobody s (rerun s e) × Others s (rerun s e)
     unfolding rerun
     rerun-inside s i l pd nq =
         let c = withCycle s (raised (s .cycle)) in
@@ -233,7 +253,7 @@ module _ (g : Given) (st : Static g) where
         (λ m q. kept m q) in
         let all : s₁ .rest e ≡ s .done e = up-same (s .rest) e (s .done e ++ s .rest e) ∙ ap (λ (x : List ℕ). s .done e ++ x) (l .tail) ∙ append-nil (s .done e) in
         let few : length (readLinks (g .kind) (s .dep) (s₁ .rest e)) ≤ reads-of g st e = subst (λ (x : List ℕ). length (readLinks (g .kind) (s .dep) x) ≤ reads-of g st e) (sym all) (l .few) in
-        subst (λ (t : Tree). Goes-on g nobody s (purge (setFl (logged (evalBy (readW (fresh (s .size)) e) t s₁) e) e f2) e)) (sym (ap (λ (z : Given). z .form e) (i .same)))
+        subst (λ (t : Tree). let x = purge (setFl (logged (evalBy (readW (fresh (s .size)) e) t s₁) e) e f2) e in Goes-on g nobody s x × Others s x) (sym (ap (λ (z : Given). z .form e) (i .same)))
         (later-run s s₁ i (l .owns) i₁ f₁ (up-same (s .done) e []) few nq)
       where
         kept : (m : ℕ) → s .fl m ≡ f1 → up (s .fl) e f6 m ≡ f1
@@ -297,12 +317,33 @@ module _ (g : Given) (st : Static g) where
       lies : s .gone e ≡ false → Lies s′ e
       lies a = record { owns = record { owned = λ o z. was .owned o a z; unowned = λ z. was .unowned re z; alive = a }; tail = was .tail; few = was .few }
 
+      -- well-formed and not stuck; effects that are still live keep their read links, but for e if it has a row
+      pub record RunOn (t : St) : Type 0 where
+        pub inside : Inside g nobody t
+        pub stuck : t .stuck ≡ s .stuck
+        pub reads : (m : ℕ) → m < g .size → g .kind m ≡ effect → t .gone m ≡ false → SameReads (g .kind) s t m ⊎ ((m ≡ e) × (t .log ≡ s .log → ⊥))
+
+      has-row : (t : St) → t .log ≡ s .log → rerun t e .log ≡ s .log → ⊥
+      has-row t q z =
+          let r = rerun-row t e in
+          let a = ap length (sym z ∙ r .2) in
+          let b = length-append (t .log) (r .0 ∷ []) in
+          let c = ap (λ (x : List Row). length x) q in
+          omega arith
+
+      rerun-on : (t : St) → t .log ≡ s .log → t .stuck ≡ s .stuck → ((m : ℕ) → g .kind m ≡ effect → SameReads (g .kind) s t m) → Goes-on g nobody t (rerun t e) × Others t (rerun t e) → RunOn (rerun t e)
+      rerun-on t q k same w = record {
+        inside = w .0 .inside;
+        stuck = w .0 .stuck ∙ k;
+        reads = λ m h z a. either (eqb m e) (λ y. inr (eqb-true m e y, has-row t q)) (λ y. inl (reads-then (g .kind) s t (rerun t e) m (same m z) (w .1 m h z (eqb-false m e y) a)));
+      }
+
       -- it does not run
-      calmed : (s .gone e ≡ true) ⊎ (s .gone e ≡ false) → Goes-on g nobody s (setFl s′ e f2)
+      calmed : (s .gone e ≡ true) ⊎ (s .gone e ≡ false) → RunOn (setFl s′ e f2)
       calmed c =
           let t = setFl s′ e f2 in
           let it : Inside g (Run e) t = flags-inside g (Run e) s′ e popped (inr refl) f2 (λ z. false≢true z) in
-          record { inside = let-out g nobody t e it (at c); stuck = refl }
+          record { inside = let-out g nobody t e it (at c); stuck = refl; reads = λ m h k a. inl (record { links = refl; ends = λ l j. refl }) }
         where
           at : (s .gone e ≡ true) ⊎ (s .gone e ≡ false) → Rests g (setFl s′ e f2) e
           at (inl a) = record {
@@ -361,13 +402,16 @@ module _ (g : Given) (st : Static g) where
         not-queued : In e (check s′ e .st .queue) → ⊥
         not-queued j = ones .0 (subst (In e) (queue-still s′ (check s′ e .st) (check-ring Still renews-still s′ e)) j)
 
-        pub checked-run : Goes-on g nobody s (elim (check s′ e .yes) [ true ↦ rerun (check s′ e .st) e | false ↦ setFl (check s′ e .st) e f2 ])
+        checked-reads : (m : ℕ) → g .kind m ≡ effect → SameReads (g .kind) s (check s′ e .st) m
+        checked-reads m k = let r = frame-reads g st (Run e) (Low g e) e s′ (check s′ e .st) m popped (checked .frame) (λ p. clash (ap isEffect k) (ap isEffect (p .0))) in record { links = r .links; ends = r .ends }
+
+        checked-run : RunOn (elim (check s′ e .yes) [ true ↦ rerun (check s′ e .st) e | false ↦ setFl (check s′ e .st) e f2 ])
         checked-run =
             let c = check s′ e in
             let t = c .st in
-            branch (Goes-on g nobody s) (c .yes)
-            (λ y. let w = rerun-inside t (checked .inside) lies-checked (checked .frame .pending e e-far (λ k. clash (ap readable k) re) ∙ pd) not-queued in
-            record { inside = w .inside; stuck = w .stuck ∙ checked .frame .stuck })
+            branch RunOn (c .yes)
+            (λ y. rerun-on t (ap (λ (f : Fixed). f .log) (check-ring Still renews-still s′ e .same)) (checked .frame .stuck) checked-reads
+            (rerun-inside t (checked .inside) lies-checked (checked .frame .pending e e-far (λ k. clash (ap readable k) re) ∙ pd) not-queued))
             (λ y. let x = setFl t e f2 in
             let l = lies-checked in
             let it : Inside g (Run e) x = flags-inside g (Run e) t e (checked .inside) (inr refl) f2 (λ z. false≢true z) in
@@ -375,28 +419,29 @@ module _ (g : Given) (st : Static g) where
               inside = let-out g nobody x e it
                   (lies-rests x (record { owns = record { owned = l .owns .owned; unowned = l .owns .unowned; alive = l .owns .alive }; tail = l .tail; few = l .few }) not-queued (up-same (t .fl) e f2));
               stuck = checked .frame .stuck;
+              reads = λ m h k a. inl (let r = checked-reads m k in record { links = r .links; ends = r .ends });
             })
 
-      pub run-inside : Goes-on g nobody s (run s′ e)
+      pub run-inside : RunOn (run s′ e)
       unfolding run
       run-inside =
-          branch (Goes-on g nobody s) (s .fl e .dirty) (λ d. at-dirty d)
-          (λ d. branch (Goes-on g nobody s) (s .fl e .pending) (λ p. at-pending p)
+          branch RunOn (s .fl e .dirty) (λ d. at-dirty d)
+          (λ d. branch RunOn (s .fl e .pending) (λ p. at-pending p)
           (λ p. calmed (either (s .gone e) (λ a. inl a) (λ a. inr a))))
         where
-          at-dirty : s .fl e .dirty ≡ true → Goes-on g nobody s (rerun s′ e)
+          at-dirty : s .fl e .dirty ≡ true → RunOn (rerun s′ e)
           at-dirty d = either (s .gone e) (λ a. clash d (ap (λ (z : Named). z .dirty) (was .queued (subst (In e) (sym is) (inl refl)) a))) (λ a. go a (was .of-effect ke a))
             where
-              go : s .gone e ≡ false → EffectFlags e (s .fl e) (s .queue) (readLinks (g .kind) (s .dep) (s .done e)) → Goes-on g nobody s (rerun s′ e)
+              go : s .gone e ≡ false → EffectFlags e (s .fl e) (s .queue) (readLinks (g .kind) (s .dep) (s .done e)) → RunOn (rerun s′ e)
               go a (watching x y) = clash d (ap (λ (z : Named). z .dirty) x)
               go a (pushed x y) = clash d (ap (λ (z : Named). z .dirty) x)
               go a (pending x y z) = clash d (ap (λ (z : Named). z .dirty) x)
-              go a (dirty x y z) = let w = rerun-inside s′ popped (lies a) (ap (λ (z : Named). z .pending) x) (ones .0) in record { inside = w .inside; stuck = w .stuck }
+              go a (dirty x y z) = rerun-on s′ refl refl (λ m k. record { links = refl; ends = λ l j. refl }) (rerun-inside s′ popped (lies a) (ap (λ (z : Named). z .pending) x) (ones .0))
 
-          at-pending : s .fl e .pending ≡ true → Goes-on g nobody s (elim (check s′ e .yes) [ true ↦ rerun (check s′ e .st) e | false ↦ setFl (check s′ e .st) e f2 ])
+          at-pending : s .fl e .pending ≡ true → RunOn (elim (check s′ e .yes) [ true ↦ rerun (check s′ e .st) e | false ↦ setFl (check s′ e .st) e f2 ])
           at-pending p = either (s .gone e) (λ a. clash p (ap (λ (z : Named). z .pending) (was .queued (subst (In e) (sym is) (inl refl)) a))) (λ a. go a (was .of-effect ke a))
             where
-              go : s .gone e ≡ false → EffectFlags e (s .fl e) (s .queue) (readLinks (g .kind) (s .dep) (s .done e)) → Goes-on g nobody s (elim (check s′ e .yes) [ true ↦ rerun (check s′ e .st) e | false ↦ setFl (check s′ e .st) e f2 ])
+              go : s .gone e ≡ false → EffectFlags e (s .fl e) (s .queue) (readLinks (g .kind) (s .dep) (s .done e)) → RunOn (elim (check s′ e .yes) [ true ↦ rerun (check s′ e .st) e | false ↦ setFl (check s′ e .st) e f2 ])
               go a (watching x y) = clash p (ap (λ (z : Named). z .pending) x)
               go a (pushed x y) = clash p (ap (λ (z : Named). z .pending) x)
               go a (pending x y z) = checked-run a z p
