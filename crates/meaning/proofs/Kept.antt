@@ -53,7 +53,7 @@ runs = record { renews = renews; logs = λ s l. record { still = refl; gone = λ
 pub run-keeps : (s : St) (e : ℕ) → Keeps s (run s e)
 run-keeps = run-ring Keeps runs
 
-flushOn-keeps : (q : List ℕ) (s : St) → Keeps s (flushOn s q)
+pub flushOn-keeps : (q : List ℕ) (s : St) → Keeps s (flushOn s q)
 flushOn-keeps = flush-ring Keeps runs (λ s q. record { still = refl; gone = λ n e. e })
 
 pub store-keeps : (s : St) (n : ℕ) (v : Value) → Keeps s (store s n v)

@@ -1,6 +1,6 @@
 -- A flush runs live effects only, none twice: its rows are at most the effects live at entry, and the rows of an accepted command fit the lent log. Assumes nothing.
 use mathlib.Core.Path.{_≡_, refl, sym, ap, ap₂, _∙_, subst}
-use mathlib.Core.Logic.{inl, inr}
+use mathlib.Core.Logic.{_⊎_, inl, inr}
 use mathlib.Core.Bool.{Bool, true, false}
 use mathlib.Core.List.{List, [], _∷_, _++_, append-assoc, append-nil}
 use mathlib.Core.Option.{Option, none, some}
@@ -28,11 +28,12 @@ use Rattle.meaning.proofs.Laws.{clash, false≢true, either, branch}
 use Rattle.meaning.proofs.Members.{most-marked}
 use Rattle.meaning.proofs.Rings.{dispose-ring, settle-ring, evaluate-ring}
 use Rattle.meaning.proofs.Still.{Given, given, Fixed, Still, link-still, drops-still, renews-still}
-use Rattle.meaning.proofs.Kept.{run-keeps}
+use Rattle.meaning.proofs.Kept.{run-keeps, flushOn-keeps}
 use Rattle.meaning.proofs.Flush.{Logs, run-logs, run-queues-nothing, Ran, end, quiet, ran, whos, ran-once, ran-in, no-flag-no-run}
 use Rattle.meaning.proofs.Refused.{NoneHolds, accepted-exactly}
 use Rattle.meaning.proofs.Inside.{nobody, Static, Inside, static, rest-inside}
 use Rattle.meaning.proofs.Frames.{others}
+use Rattle.meaning.proofs.Binding.{SameReads, reads-same, reads-then}
 use Rattle.meaning.proofs.Running.{run-inside}
 use Rattle.meaning.proofs.Walking.{i-propagated}
 use Rattle.meaning.proofs.Accepted.{logless, taken, is-signal}
@@ -45,29 +46,51 @@ module _ (g : Given) (st : Static g) where
     pub logged : t .log ≡ s .log ++ rows
     pub ran : Ran rows q
     pub lives : (e : ℕ) → In e (whos rows) → s .gone e ≡ false
+    -- an effect that is still live and has no row keeps its read links
+    pub reads : (m : ℕ) → m < g .size → g .kind m ≡ effect → t .gone m ≡ false → (In m (whos rows) → ⊥) → SameReads (g .kind) s t m
 
   pub flush-rows : (q : List ℕ) (s : St) → Inside g nobody s → s .queue ≡ q → Rows s (flushOn s q) q
   unfolding flushOn whos
-  flush-rows [] s i is = record { rows = []; logged = sym (append-nil (s .log)); ran = end; lives = λ e j. absurd j }
+  flush-rows [] s i is = record { rows = []; logged = sym (append-nil (s .log)); ran = end; lives = λ e j. absurd j; reads = λ m h k a n. reads-same (g .kind) s m }
   flush-rows (e ∷ q) s i is =
       let x = i .effects e (subst (In e) (sym is) (inl refl)) in
       let r = run-inside g st e (x .0) (x .1) s q i is in
       let t = run (withQueue s q) e in
-      go (i .rests e (x .0) (λ z. z) .queued (subst (In e) (sym is) (inl refl))) (run-logs (withQueue s q) e) (flush-rows q t (r .inside) (run-queues-nothing (withQueue s q) e))
+      go (r .reads) (i .rests e (x .0) (λ z. z) .queued (subst (In e) (sym is) (inl refl))) (run-logs (withQueue s q) e) (flush-rows q t (r .inside) (run-queues-nothing (withQueue s q) e))
     where
       -- who is live after the run was so before
       before : (n : ℕ) → run (withQueue s q) e .gone n ≡ false → s .gone n ≡ false
       before n a = either (s .gone n) (λ b. clash (run-keeps (withQueue s q) e .gone n b) a) (λ b. b)
 
-      go : (s .gone e ≡ true → s .fl e ≡ f0) → Logs (withQueue s q) e (run (withQueue s q) e) → Rows (run (withQueue s q) e) (flushOn (run (withQueue s q) e) q) q → Rows s (flushOn (run (withQueue s q) e) q) (e ∷ q)
-      go calm (inl p) f = record { rows = f .rows; logged = f .logged ∙ ap (λ (l : List Row). l ++ f .rows) p; ran = quiet (f .ran); lives = λ n j. before n (f .lives n j) }
-      go calm (inr p) f = record {
+      -- who is live after the flush was so after the run
+      after-run : (n : ℕ) → flushOn (run (withQueue s q) e) q .gone n ≡ false → run (withQueue s q) e .gone n ≡ false
+      after-run n a = either (run (withQueue s q) e .gone n) (λ b. clash (flushOn-keeps q (run (withQueue s q) e) .gone n b) a) (λ b. b)
+
+      go : ((m : ℕ) → m < g .size → g .kind m ≡ effect → run (withQueue s q) e .gone m ≡ false → SameReads (g .kind) s (run (withQueue s q) e) m ⊎ ((m ≡ e) × (run (withQueue s q) e .log ≡ s .log → ⊥)))
+          → (s .gone e ≡ true → s .fl e ≡ f0) → Logs (withQueue s q) e (run (withQueue s q) e) → Rows (run (withQueue s q) e) (flushOn (run (withQueue s q) e) q) q → Rows s (flushOn (run (withQueue s q) e) q) (e ∷ q)
+      go rd calm (inl p) f = record {
+        rows = f .rows;
+        logged = f .logged ∙ ap (λ (l : List Row). l ++ f .rows) p;
+        ran = quiet (f .ran);
+        lives = λ n j. before n (f .lives n j);
+        reads = λ m h k a n. reads-then (g .kind) s _ _ m (only-same m (rd m h k (after-run m a))) (f .reads m h k a n);
+      }
+        where
+          only-same : (m : ℕ) → SameReads (g .kind) s (run (withQueue s q) e) m ⊎ ((m ≡ e) × (run (withQueue s q) e .log ≡ s .log → ⊥)) → SameReads (g .kind) s (run (withQueue s q) e) m
+          only-same m (inl r) = r
+          only-same m (inr z) = absurd (z .1 p)
+      go rd calm (inr p) f = record {
         rows = p .0 ∷ f .rows;
         logged = f .logged ∙ ap (λ (l : List Row). l ++ f .rows) (p .2) ∙ append-assoc (s .log) (p .0 ∷ []) (f .rows);
         ran = ran (p .1) (f .ran);
         lives = here;
+        reads = λ m h k a n. reads-then (g .kind) s _ _ m (other-same m (λ z. n (inl (z ∙ sym (p .1)))) (rd m h k (after-run m a))) (f .reads m h k a (λ j. n (inr j)));
       }
         where
+          other-same : (m : ℕ) → (m ≡ e → ⊥) → SameReads (g .kind) s (run (withQueue s q) e) m ⊎ ((m ≡ e) × (run (withQueue s q) e .log ≡ s .log → ⊥)) → SameReads (g .kind) s (run (withQueue s q) e) m
+          other-same m ne (inl r) = r
+          other-same m ne (inr z) = absurd (ne (z .0))
+
           -- a gone effect has no flag and does not run
           not-gone : s .gone e ≡ true → ⊥
           not-gone a =
