@@ -19,7 +19,8 @@ use Rattle.meaning.specs.WellFormed.{In, Once, Lists, readLinks, Compute
 use Rattle.meaning.proofs.Laws.{clash, false≢true, either, none-some, branch, up-same, up-other, up-by, in-right}
 use Rattle.meaning.proofs.Members.{remove-in, in-remove, remove-absent, remove-head, remove-once, remove-append, none-nil, nil-none, isNil-true, isNil-false, append-is-nil, once-right, once-apart, most-below, total-least, reads-remove}
 use Rattle.meaning.proofs.Still.{Given}
-use Rattle.meaning.proofs.Inside.{Set, nobody, also, only, Static, Goes, AtRest, Rests, Slots, Inside, widen, let-out, at-same, read-moves, moves-read, Under, under-same, under-then, goes-under, never-back, owner-owns}
+use Rattle.meaning.proofs.Binding.{SameLists, readsOf, SameReads, reads-then, reads-lists}
+use Rattle.meaning.proofs.Inside.{Set, nobody, also, only, Static, Goes, AtRest, Rests, Slots, Inside, widen, let-out, at-same, own-still, read-moves, moves-read, Under, under-same, under-then, goes-under, never-back, owner-owns}
 
 -- ---- a link is cut
 module _ (g : Given) (X : Set) (s : St) (l : ℕ) (i : Inside g X s) (lv : s .live l ≡ true) where
@@ -246,9 +247,6 @@ dropped-reset N u n s f b nn none-here same t e₁ e₂ e₃ e₄ e₅ e₆ e₇
 -- ---- whose links the ring leaves alone: all but those of E, and of nodes that fall, which are gone or have MUTABLE
 abbrev pub Fallen : St → ℕ → Type 0
 Fallen t m = (t .gone m ≡ true) ⊎ (t .fl m .mutable ≡ true)
-
-abbrev pub SameLists : St → St → ℕ → Type 0
-SameLists s t m = (t .done m ≡ s .done m) × (t .rest m ≡ s .rest m)
 
 pub record Spares (E : Set) (s t : St) : Type 0 where
   pub safe : (m : ℕ) → (E m → ⊥) → SameLists s t m ⊎ Fallen t m
@@ -590,6 +588,18 @@ module _ (g : Given) (st : Static g) where
       let e : s .room .slots ≡ g .room .slots = ap (λ (z : Given). z .room .slots) (i .same) in
       purge-all (suc (s .room .slots)) (unlinkN (suc (s .room .slots))) (unlink-inside (suc (s .room .slots))) X u xu apart (s .rest u) s i refl (omega arith)
 
+  -- ---- an effect that is still live keeps its read links
+  not-fallen : (X : Set) (t : St) (e : ℕ) {C : Type 0} → Inside g X t → e < g .size → g .kind e ≡ effect → (X e → ⊥) → t .gone e ≡ false → Fallen t e → C
+  not-fallen X t e i h k x a (inl b) = clash b a
+  not-fallen X t e i h k x a (inr m) = clash m (own-still g (t .queue) (t .dep) (t .sub) e _ _ _ _ _ (i .rests e h x) (ap readable k))
+
+  pub purge-reads : (X : Set) (s t : St) (u e : ℕ) → Purged X s u t → e < g .size → g .kind e ≡ effect → (X e → ⊥) → (e ≡ u → ⊥) → t .gone e ≡ false → SameReads (g .kind) s t e
+  purge-reads X s t u e p h k x ne a = go (p .spares .safe e ne)
+    where
+      go : SameLists s t e ⊎ Fallen t e → SameReads (g .kind) s t e
+      go (inl l) = reads-lists (g .kind) s t e l (λ n j. ap (λ (z : ℕ → ℕ). z n) (p .dropped .dep))
+      go (inr f) = not-fallen X t e (p .inside) h k x a f
+
   -- ---- dispose, at rest: x loses what it owns and reads, then the link to its owner
   module _ (s : St) (x : ℕ) (i : Inside g nobody s) (h : x < g .size) (r : readable (g .kind x) ≡ false) where
     abbrev X : Set
@@ -621,6 +631,16 @@ module _ (g : Given) (st : Static g) where
     outside : Strict x x → ⊥
     outside z = z .1 refl
 
+    -- other nodes keep their links, or fall
+    spared : Spares nobody s emptied
+    spared =
+        let down : Fallen begun x = inl (up-same (s .gone) x true) in
+        let begins : Spares nobody s begun = spares-reset s begun x (λ m q. ((up-other (s .done) x [] m q, up-other (s .rest) x (s .done x ++ s .rest x) m q), up-other (s .fl) x f0 m q, up-other (s .gone) x true m q)) down in
+        spares-over s begun emptied x begins down (purged .spares)
+
+    dep-same : emptied .dep ≡ s .dep
+    dep-same = purged .dropped .dep
+
     same-subs : emptied .subs x ≡ s .subs x
     same-subs = purged .dropped .subs x outside
 
@@ -635,6 +655,10 @@ module _ (g : Given) (st : Static g) where
 
     was-resting : Rests g s x
     was-resting = i .rests x h (λ z. z)
+
+    -- effects that are still live keep their read links
+    abbrev Kept : St → Type 0
+    Kept z = (m : ℕ) → m < g .size → g .kind m ≡ effect → z .gone m ≡ false → SameReads (g .kind) s z m
 
     -- the owner's link, alone in its list
     module _ (l : ℕ) (ls : List ℕ) (e : emptied .subs x ≡ l ∷ ls) where
@@ -723,28 +747,51 @@ module _ (g : Given) (st : Static g) where
           one : (k : ℕ) → In k (t .subs x) → k ≡ headOr (s .subs x)
           one k j = first k (subst (In k) same-subs j) (s .gone x) refl (g .owner x) refl
 
-      gone-too : Inside g nobody (unlinkN (suc K) t l) × (unlinkN (suc K) t l .stuck ≡ t .stuck)
+      -- the owner keeps its read links
+      cut-reads : (m : ℕ) → SameReads (g .kind) t (cut t l) m
+      unfolding cut
+      cut-reads m = record { links = ap (readLinks (g .kind) (t .dep)) (cut-deps g X t l (purged .inside) (linked .0) m) ∙ reads-remove (g .kind) (t .dep) l (deps t m) not-read; ends = λ k j. refl }
+
+      fallen-cut : (m : ℕ) → Fallen t m → Fallen (cut t l) m
+      unfolding cut
+      fallen-cut m f = f
+
+      after : (z : St) → Inside g nobody z → Spares nobody (cut t l) z → z .dep ≡ cut t l .dep → Kept z
+      after z i′ sp e m h k a = go (spared .safe m (λ w. w)) (sp .safe m (λ w. w))
+        where
+          go : SameLists s t m ⊎ Fallen t m → SameLists (cut t l) z m ⊎ Fallen z m → SameReads (g .kind) s z m
+          go (inl p) (inl q) =
+              reads-then (g .kind) s t z m (reads-lists (g .kind) s t m p (λ n j. ap (λ (w : ℕ → ℕ). w n) dep-same))
+              (reads-then (g .kind) t (cut t l) z m (cut-reads m) (reads-lists (g .kind) (cut t l) z m q (λ n j. ap (λ (w : ℕ → ℕ). w n) e)))
+          go (inl p) (inr f) = not-fallen nobody z m i′ h k (λ w. w) a f
+          go (inr f) q = not-fallen nobody z m i′ h k (λ w. w) a (sp .fallen m (fallen-cut m f))
+
+      gone-too : Inside g nobody (unlinkN (suc K) t l) × (unlinkN (suc K) t l .stuck ≡ t .stuck) × Kept (unlinkN (suc K) t l)
       unfolding unlinkN unwatchedW cut
       gone-too =
           let d = t .dep l in
           let c = cut t l in
-          let P : St → Type 0 = λ z. Inside g nobody z × (z .stuck ≡ t .stuck) in
+          let P : St → Type 0 = λ z. Inside g nobody z × (z .stuck ≡ t .stuck) × Kept z in
           branch P (t .live l)
           (λ a. branch P (isNil (c .subs d))
           (λ q. subst (λ (y : ℕ). P (unwatchedW (unlinkN K) c y)) (sym (linked .1))
           (branch P (c .fl x .mutable) (λ m. clash m (ap (λ (z : Named). z .mutable) flag))
-          (λ m. let w = dispose-bare K (unlinkN K) (unlink-inside K) nobody c x x i-left h r alone (λ n y z. z) (budget c) in (w .0, w .1 .stuck))))
+          (λ m. let w = dispose-bare K (unlinkN K) (unlink-inside K) nobody c x x i-left h r alone (λ n y z. z) (budget c) in (w .0, w .1 .stuck, after _ (w .0) (w .2) (w .1 .dep)))))
           (λ q. absurd (isNil-false (c .subs d) q (subst (λ (y : ℕ). c .subs y ≡ []) (sym (linked .1)) alone))))
           (λ a. clash (linked .0) a)
 
-    pub dispose-inside : Inside g nobody (dispose s x) × (dispose s x .stuck ≡ s .stuck)
+    pub dispose-inside : Inside g nobody (dispose s x) × (dispose s x .stuck ≡ s .stuck) × ((m : ℕ) → m < g .size → g .kind m ≡ effect → dispose s x .gone m ≡ false → SameReads (g .kind) s (dispose s x) m)
     unfolding disposeW lastLink
     dispose-inside = go (emptied .subs x) refl
       where
-        go : (ls : List ℕ) → emptied .subs x ≡ ls → Inside g nobody (lastLink (unlinkN (suc K)) emptied (headOf ls)) × (lastLink (unlinkN (suc K)) emptied (headOf ls) .stuck ≡ s .stuck)
-        go [] e = (
-          let-out g nobody emptied x (purged .inside)
-              (rests-gone g (emptied .queue) (emptied .dep) (emptied .sub) x (emptied .fl x) (emptied .gone x) (emptied .done x) (emptied .rest x) (emptied .subs x) r flag gone-now no-deps (purged .rest) e),
-          purged .dropped .stuck,
-        )
-        go (l ∷ ls) e = let w = gone-too l ls e in (w .0, w .1 ∙ purged .dropped .stuck)
+        go : (ls : List ℕ) → emptied .subs x ≡ ls → Inside g nobody (lastLink (unlinkN (suc K)) emptied (headOf ls)) × (lastLink (unlinkN (suc K)) emptied (headOf ls) .stuck ≡ s .stuck) × Kept (lastLink (unlinkN (suc K)) emptied (headOf ls))
+        go [] e =
+            let it : Inside g nobody emptied =
+            let-out g nobody emptied x (purged .inside)
+            (rests-gone g (emptied .queue) (emptied .dep) (emptied .sub) x (emptied .fl x) (emptied .gone x) (emptied .done x) (emptied .rest x) (emptied .subs x) r flag gone-now no-deps (purged .rest) e) in
+            (it, purged .dropped .stuck, λ m h k a. first m (not-fallen nobody emptied m it h k (λ w. w) a) (spared .safe m (λ w. w)))
+          where
+            first : (m : ℕ) → (Fallen emptied m → SameReads (g .kind) s emptied m) → SameLists s emptied m ⊎ Fallen emptied m → SameReads (g .kind) s emptied m
+            first m f (inl p) = reads-lists (g .kind) s emptied m p (λ n j. ap (λ (w : ℕ → ℕ). w n) dep-same)
+            first m f (inr z) = f z
+        go (l ∷ ls) e = let w = gone-too l ls e in (w .0, w .1 ∙ purged .dropped .stuck, w .2)

@@ -16,6 +16,7 @@ use Rattle.meaning.specs.WellFormed.{In, readLinks, clean}
 use Rattle.meaning.proofs.Laws.{clash, either, none-some}
 use Rattle.meaning.proofs.Members.{none-nil, nil-none, append-is-nil, reads-agree}
 use Rattle.meaning.proofs.Still.{Given}
+use Rattle.meaning.proofs.Binding.{SameReads, reads-lists}
 use Rattle.meaning.proofs.Inside.{Set, Static, AtRest, Slots, Inside, Under}
 use Rattle.meaning.proofs.Dropping.{aComputed, Purged}
 use Rattle.meaning.proofs.Room.{spends, Paid}
@@ -131,6 +132,10 @@ frame-wider g N M c b s t h le f = record {
 }
 
 module _ (g : Given) (st : Static g) where
+  -- a node outside N keeps its read links
+  pub frame-reads : (X N : Set) (c : ℕ) (s t : St) (e : ℕ) → Inside g X s → Frame g N c s t → (N e → ⊥) → SameReads (g .kind) s t e
+  frame-reads X N c s t e i f h = reads-lists (g .kind) s t e (f .lists e h) (λ l j. let x = i .lists .deps-live l e j in f .links l (x .0) (λ z. h (subst N (x .1) z)) .1)
+
   -- what a node outside N pays for stays as it is
   pub paid-frame : (X : Set) (N : Set) (c : ℕ) (s t : St) (n : ℕ) → Inside g X s → Inside g X t → Frame g N c s t → n < g .size → (N n → ⊥) → Paid g s n → Paid g t n
   paid-frame X N c s t n i j f h a p =

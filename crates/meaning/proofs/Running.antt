@@ -25,10 +25,10 @@ use Rattle.meaning.proofs.Rings.{purge-ring, evaluate-ring, check-ring}
 use Rattle.meaning.proofs.Still.{Given, Fixed, Still, drops-still, renews-still}
 use Rattle.meaning.proofs.Flush.{run-queues-nothing, rerun-row}
 use Rattle.meaning.proofs.Inside.{Set, nobody, also, Static, Goes, Rests, Inside, let-out, Under, under-same, never-back, owner-owns}
-use Rattle.meaning.proofs.Dropping.{flags-inside, rewind-inside, purge-inside}
+use Rattle.meaning.proofs.Dropping.{flags-inside, rewind-inside, purge-inside, purge-reads}
 use Rattle.meaning.proofs.Room.{ownerLinks, spends, Paid, rests-paid}
-use Rattle.meaning.proofs.Frames.{others, Low, Frame, frame-flags, frame-same, frame-then, frame-wider, Open}
-use Rattle.meaning.proofs.Binding.{SameReads, reads-then, frame-reads, purge-reads}
+use Rattle.meaning.proofs.Frames.{others, Low, Frame, frame-flags, frame-same, frame-then, frame-wider, frame-reads, Open}
+use Rattle.meaning.proofs.Binding.{SameReads, reads-then}
 use Rattle.meaning.proofs.Reading.{settle-inside, Near, reads-of, During, eval-during}
 use Rattle.meaning.proofs.Updating.{Checked, check-inside, fresh-inside}
 
