@@ -11,7 +11,7 @@ use lib.IntN.{ℤ, pos, negsuc}
 use borrow.Author.Tests.{leb-false, ltb-true, ltb-false, not-true, not-false, eqb-false}
 use Rattle.primitive.specs.declared.values.Value.{Value}
 use Rattle.primitive.specs.Values.{value, same}
-use Rattle.formula.specs.Trees.{Tree, size, nesting, names}
+use Rattle.formula.specs.Trees.{Tree, constant, size, nesting, names}
 use Rattle.formula.specs.Legal.{mostCells, mostNesting}
 use Rattle.meaning.specs.State.{St, Kind, signal, computed, effect, scope, Room, readable, f17, empty}
 use Rattle.meaning.specs.Setters.{withLog, withDepth, withQueue, setFl, setPend}
@@ -181,20 +181,37 @@ module _ (s : St) (rows : ℕ) (w : WellFormed s) where
       record { formed = at-rest g (flush t) st (r .inside) (λ z. flush-empties t) (subst (λ (x : ℕ). x ≤ mostDepth) (sym d) (omega arith)); stuck = r .stuck }
   end-well (suc (suc d)) e h = record { formed = subst (λ (x : ℕ). WellFormed (endAt (withLog s []) x)) e (inner-end-well-formed (withLog s []) d e logless); stuck = refl }
 
-  perform-well : (c : Command) → NoneHolds (table true v (some c)) → Well (withLog s []) (perform (withLog s []) c .st)
-  unfolding table perform wrongNode goneNode badFormula tooHigh noRoom wrongDepth asksOf names
-  perform-well (makeSignal x) h = signal-well (withLog s []) logless (value x) (fits signal none (negsuc 0) refl refl refl (h 5) (h 6) (λ r. refl) (λ r. refl))
-  perform-well (makeComputed cs) h = computed-well (withLog s []) logless (formulaOf cs) (fits computed (some cs) (negsuc 0) refl refl (h 4) (h 5) (h 6) (λ r. refl) (λ r. not-plain r))
+  -- the four makings
+  pub signal-fits : (x : ℤ) → NoneHolds (table true v (some (makeSignal x))) → Fits (withLog s []) signal (constant (pos 0)) none
+  unfolding table wrongNode goneNode badFormula tooHigh noRoom asksOf names
+  signal-fits x h = fits signal none (negsuc 0) refl refl refl (h 5) (h 6) (λ r. refl) (λ r. refl)
+
+  pub computed-fits : (cs : List ℤ) → NoneHolds (table true v (some (makeComputed cs))) → Fits (withLog s []) computed (formulaOf cs) none
+  unfolding table wrongNode goneNode badFormula tooHigh noRoom asksOf
+  computed-fits cs h = fits computed (some cs) (negsuc 0) refl refl (h 4) (h 5) (h 6) (λ r. refl) (λ r. not-plain r)
     where
       not-plain : (computed ≡ signal) ⊎ (computed ≡ scope) → names (formulaOf cs) ≡ []
       not-plain (inl e) = false≢true (sym (ap aComputed e))
       not-plain (inr e) = false≢true (sym (ap aComputed e))
-  perform-well (makeEffect o cs) h = effect-well (withLog s []) logless (ownerOf o) (formulaOf cs) (fits effect (some cs) o (h 2) (h 3) (h 4) (h 5) (h 6) (λ r. false≢true r) (λ r. not-plain r))
+
+  pub effect-fits : (o : ℤ) (cs : List ℤ) → NoneHolds (table true v (some (makeEffect o cs))) → Fits (withLog s []) effect (formulaOf cs) (ownerOf o)
+  unfolding table wrongNode goneNode badFormula tooHigh noRoom asksOf
+  effect-fits o cs h = fits effect (some cs) o (h 2) (h 3) (h 4) (h 5) (h 6) (λ r. false≢true r) (λ r. not-plain r)
     where
       not-plain : (effect ≡ signal) ⊎ (effect ≡ scope) → names (formulaOf cs) ≡ []
       not-plain (inl e) = false≢true (sym (ap isEffect e))
       not-plain (inr e) = false≢true (sym (ap isEffect e))
-  perform-well (makeScope o) h = scope-well (withLog s []) logless (ownerOf o) (fits scope none o (h 2) (h 3) refl (h 5) (h 6) (λ r. false≢true r) (λ r. refl))
+
+  pub scope-fits : (o : ℤ) → NoneHolds (table true v (some (makeScope o))) → Fits (withLog s []) scope (constant (pos 0)) (ownerOf o)
+  unfolding table wrongNode goneNode badFormula tooHigh noRoom asksOf names
+  scope-fits o h = fits scope none o (h 2) (h 3) refl (h 5) (h 6) (λ r. false≢true r) (λ r. refl)
+
+  perform-well : (c : Command) → NoneHolds (table true v (some c)) → Well (withLog s []) (perform (withLog s []) c .st)
+  unfolding table perform wrongNode goneNode badFormula tooHigh noRoom wrongDepth asksOf names
+  perform-well (makeSignal x) h = signal-well (withLog s []) logless (value x) (signal-fits x h)
+  perform-well (makeComputed cs) h = computed-well (withLog s []) logless (formulaOf cs) (computed-fits cs h)
+  perform-well (makeEffect o cs) h = effect-well (withLog s []) logless (ownerOf o) (formulaOf cs) (effect-fits o cs h)
+  perform-well (makeScope o) h = scope-well (withLog s []) logless (ownerOf o) (scope-fits o h)
   perform-well (setTo n x) h = stored (nodeOf n) (value x) (taken aSignal n (h 2))
   perform-well (addTo n d) h = stored (nodeOf n) _ (taken aSignal n (h 2))
   perform-well (readOf n) h =

@@ -28,3 +28,17 @@ reads-lists kind s t e p h = record {
   links = ap (readLinks kind (t .dep)) (ap₂ (λ (x y : List ℕ). x ++ y) (p .0) (p .1)) ∙ reads-agree kind (s .dep) (t .dep) (deps s e) h;
   ends = λ l j. h l (reads-sub kind (s .dep) l (deps s e) j);
 }
+
+-- the same of two states with kinds of their own
+pub record ReadsStay (s t : St) (e : ℕ) : Type 0 where
+  pub links : readsOf (t .kind) t e ≡ readsOf (s .kind) s e
+  pub ends : (l : ℕ) → In l (readsOf (s .kind) s e) → t .dep l ≡ s .dep l
+
+pub stay-then : (s t x : St) (e : ℕ) → ReadsStay s t e → ReadsStay t x e → ReadsStay s x e
+stay-then s t x e p q = record { links = q .links ∙ p .links; ends = λ l j. q .ends l (subst (In l) (sym (p .links)) j) ∙ p .ends l j }
+
+pub same-stay : (kind : ℕ → Kind) (s t : St) (e : ℕ) → s .kind ≡ kind → t .kind ≡ kind → SameReads kind s t e → ReadsStay s t e
+same-stay kind s t e p q r = record {
+  links = ap (λ (k : ℕ → Kind). readsOf k t e) q ∙ r .links ∙ ap (λ (k : ℕ → Kind). readsOf k s e) (sym p);
+  ends = λ l j. r .ends l (subst (λ (k : ℕ → Kind). In l (readsOf k s e)) p j);
+}

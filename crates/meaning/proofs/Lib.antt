@@ -30,3 +30,4 @@ pub mod Made
 pub mod Accepted
 pub mod Rows
 pub mod Binding
+pub mod Bound

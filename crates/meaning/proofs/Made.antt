@@ -23,17 +23,18 @@ use Rattle.meaning.specs.Reserve.{reserveOf}
 use Rattle.meaning.specs.Refusals.{mostDepth}
 use Rattle.meaning.specs.WellFormed.{In, readLinks, never, EffectFlags, WellFormed}
 use Rattle.meaning.proofs.Laws.{clash, false≢true, either, branch, or-false, none-some, up-same, up-other, in-left}
-use Rattle.meaning.proofs.Members.{reads-append}
+use Rattle.meaning.proofs.Members.{reads-append, reads-agree, reads-sub}
 use Rattle.meaning.proofs.Rings.{evaluate-ring}
 use Rattle.meaning.proofs.Still.{Given, given, Fixed, Still, renews-still}
+use Rattle.meaning.proofs.Binding.{SameReads, ReadsStay, stay-then, same-stay}
 use Rattle.meaning.proofs.Inside.{nobody, also, Static, Goes, AtRest, Rests, Inside, let-out, widen, at-same, inside-rest}
 use Rattle.meaning.proofs.Dropping.{aComputed}
 use Rattle.meaning.proofs.Room.{ownerLinks, spends, Paid, rests-paid, slot-left}
 use Rattle.meaning.proofs.Linking.{at-ends, insert-inside}
 use Rattle.meaning.proofs.Frames.{frame-same, rests-clean}
 use Rattle.meaning.proofs.Reading.{Near}
-use Rattle.meaning.proofs.Running.{Goes-on, Owns, first-run}
-use Rattle.meaning.proofs.Making.{Fits, G, deps-new, gone-new, subs-new, kind-new, fl-new, owner-new, done-new, new-static, new-inside, not-queued}
+use Rattle.meaning.proofs.Running.{Goes-on, Owns, first-run, first-reads}
+use Rattle.meaning.proofs.Making.{Fits, G, deps-new, gone-new, subs-new, kind-new, fl-new, owner-new, done-new, new-static, new-inside, new-reads, not-queued}
 
 -- nobody is under way any more
 pub at-rest : (g : Given) (t : St) → Static g → Inside g nobody t → (t .depth ≡ 0 → t .queue ≡ []) → t .depth ≤ mostDepth → WellFormed t
@@ -50,6 +51,7 @@ module _ (s : St) (w : WellFormed s) (k : Kind) (t : Tree) (b : Named) (v : Valu
     pub flag : x .fl (s .size) ≡ b
     pub queue : x .queue ≡ s .queue
     pub depth : x .depth ≡ s .depth
+    pub reads : (m : ℕ) → m < s .size → ReadsStay s x m
 
   unowned-made : (fits : Fits s k t none) → Made none fits (node s k t none b v)
   unowned-made fits =
@@ -67,6 +69,7 @@ module _ (s : St) (w : WellFormed s) (k : Kind) (t : Tree) (b : Named) (v : Valu
         flag = fl-new s w k t none b v fits (s .size) refl;
         queue = refl;
         depth = refl;
+        reads = new-reads s w k t none b v fits;
       }
 
   module _ (p : ℕ) (fits : Fits s k t (some p)) (rk : readable k ≡ false) where
@@ -186,6 +189,15 @@ module _ (s : St) (w : WellFormed s) (k : Kind) (t : Tree) (b : Named) (v : Valu
         let rp-now : Rests g x p = at-same g (M .queue) (x .dep) (x .sub) p _ _ _ _ _ _ _ _ _ _ refl refl (up-same (M .done) p (M .done p ++ l ∷ [])) refl (up-other (M .subs) n (M .subs n ++ l ∷ []) p other) rt in
         let subs-now : x .subs n ≡ l ∷ [] = up-same (M .subs) n (M .subs n ++ l ∷ []) ∙ ap (λ (z : List ℕ). z ++ l ∷ []) (subs-new s w k t (some p) b v fits n refl) in
         let d = done-new s w k t (some p) b v fits in
+        let agree : (m : ℕ) → readLinks (g .kind) (x .dep) (deps M m) ≡ readLinks (g .kind) (s .dep) (deps M m) =
+        λ m. reads-agree (g .kind) (s .dep) (x .dep) (deps M m) (λ c z. up-other (s .dep) l n c (away c (i .lists .deps-live c m z .0))) in
+        let done-p : deps M p ≡ M .done p = ap (λ (z : List ℕ). M .done p ++ z) (r .tail) ∙ append-nil (M .done p) in
+        let longer : deps x p ≡ M .done p ++ l ∷ [] = ap₂ (λ (y z : List ℕ). y ++ z) (up-same (M .done) p (M .done p ++ l ∷ [])) (r .tail) ∙ append-nil (M .done p ++ l ∷ []) in
+        let reads-now : (m : ℕ) → readLinks (g .kind) (x .dep) (deps x m) ≡ readLinks (g .kind) (s .dep) (deps M m) =
+        λ m. either (eqb m p)
+        (λ q. subst (λ (z : ℕ). readLinks (g .kind) (x .dep) (deps x z) ≡ readLinks (g .kind) (s .dep) (deps M z)) (sym (eqb-true m p q))
+        (ap (readLinks (g .kind) (x .dep)) longer ∙ reads ∙ ap (readLinks (g .kind) (x .dep)) (sym done-p) ∙ agree p))
+        (λ q. ap (λ (z : List ℕ). readLinks (g .kind) (x .dep) (z ++ M .rest m)) (up-other (M .done) p (M .done p ++ l ∷ []) m (eqb-false m p q)) ∙ agree m) in
         record {
           inside = let-out g (also nobody n) x p (widen g (also (also (also nobody n) n) p) (also (also nobody n) p) x in-x j) rp-now;
           stuck = unspent;
@@ -199,6 +211,8 @@ module _ (s : St) (w : WellFormed s) (k : Kind) (t : Tree) (b : Named) (v : Valu
           flag = fl-new s w k t (some p) b v fits n refl;
           queue = refl;
           depth = refl;
+          reads = λ m h. stay-then s M x m (new-reads s w k t (some p) b v fits m h)
+              (record { links = reads-now m; ends = λ c z. up-other (s .dep) l n c (away c (i .lists .deps-live c m (reads-sub (g .kind) (s .dep) c (deps M m) z) .0)) });
         }
       where
         in-x : (m : ℕ) → also (also (also nobody n) n) p m → also (also nobody n) p m
@@ -328,6 +342,24 @@ module _ (s : St) (w : WellFormed s) where
         queued = λ j a. m .flag;
       } in
       ended scope c o f0 nothing fits x (let-out g nobody x (s .size) (m .inside) r) (m .stuck) (m .queue) (m .depth)
+
+  pub effect-reads : (o : Option ℕ) (t : Tree) → Fits s effect t o → (m : ℕ) → m < s .size → s .kind m ≡ effect → ReadsStay s (newEffect s o t) m
+  unfolding newEffect readLinks logged
+  effect-reads o t fits m h km =
+      let n = s .size in
+      let d = made s w effect t f6 nothing refl o fits (λ p e. refl) in
+      let x = owned (node s effect t o f6 nothing) n o in
+      let g = G s w effect t o f6 nothing fits in
+      let st = new-static s w effect t o f6 nothing fits in
+      let kn = kind-new s w effect t o f6 nothing fits n refl in
+      let left = subst (λ (z : List ℕ). length (readLinks (g .kind) (x .dep) z) ≤ length (names (g .form n))) (sym (d .rest)) (omega arith) in
+      let e : x .form n ≡ g .form n = ap (λ (z : Given). z .form n) (d .inside .same) in
+      let y = newEffect s o t in
+      let ok : x .kind ≡ g .kind = ap (λ (z : Given). z .kind) (d .inside .same) in
+      let still = evaluate-ring Still renews-still x n in
+      let r = first-reads g st n (omega arith) kn x x (d .inside) (d .owns) (d .inside) (frame-same g (Near g st n) n x) (d .done) left m (up-other (s .kind) n effect m (λ q. omega arith) ∙ km) (λ q. omega arith) in
+      let z : SameReads (g .kind) x y m = subst (λ (f : Tree). SameReads (g .kind) x (setFl (logged (evalBy (readW (fresh (x .size)) n) f x) n) n f2) m) (sym e) r in
+      stay-then s x y m (d .reads m h) (same-stay (g .kind) x y m ok (ap (λ (f : Fixed). f .nodes .kind) (still .same) ∙ ok) z)
 
   pub effect-well : (o : Option ℕ) (t : Tree) → Fits s effect t o → Well s (newEffect s o t)
   unfolding newEffect readLinks logged

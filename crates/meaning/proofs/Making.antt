@@ -21,6 +21,7 @@ use Rattle.meaning.specs.WellFormed.{In, Once, readLinks, EffectFlags, W
 use Rattle.meaning.proofs.Laws.{clash, either, up-same, up-other, up-by, in-left}
 use Rattle.meaning.proofs.Kept.{total-same}
 use Rattle.meaning.proofs.Still.{Given, given}
+use Rattle.meaning.proofs.Binding.{ReadsStay}
 use Rattle.meaning.proofs.Inside.{nobody, also, Static, Rests, Slots, Inside, at-same, rest-inside, reserved}
 
 -- ---- what agrees below n
@@ -243,6 +244,12 @@ module _ (s : St) (w : WellFormed s) (k : Kind) (t : Tree) (o : Option ℕ) (b :
     once = was .once;
     effects = λ m j. let x = was .effects m j in let y = x .0 in (omega arith, kind-old m y ∙ x .1);
     rests = λ m h f. split m h (λ z. absurd (f (inr z))) (rests-old m);
+  }
+
+  pub new-reads : (m : ℕ) → m < s .size → ReadsStay s N m
+  new-reads m h = record {
+    links = ap (readLinks (N .kind) (s .dep)) (deps-other m (λ q. omega arith)) ∙ reads-same (s .kind) (N .kind) (s .size) kind-old (s .dep) (deps s m) (λ l j. below l (w .lists .deps-live l m j .0) .0);
+    ends = λ l j. refl;
   }
 
   pub not-queued : In (s .size) (s .queue) → ⊥

@@ -4,7 +4,7 @@ use mathlib.Core.Logic.{_⊎_, inl, inr}
 use mathlib.Core.Bool.{Bool, true, false}
 use mathlib.Core.List.{List, [], _∷_, _++_, append-nil}
 use mathlib.Core.Option.{Option, none, some}
-use Prim.Native.Nat.{ℕ, _+_, _≤_, _<_}
+use Prim.Native.Nat.{ℕ, suc, _+_, _≤_, _<_}
 use native.Mathlib.Omega.{arith}
 use lib.Dec.{eqb}
 use lib.ListN.{length, length-append}
@@ -53,6 +53,13 @@ module _ (g : Given) (st : Static g) where
       let e = size-is nobody s i in
       let w = settle-inside g st (s .size) (fresh (s .size)) (fresh-inside g st (s .size)) nobody s n i (nobody-open s) h r (λ m x q. absurd x) (omega arith) in
       record { inside = w .inside; stuck = w .frame .stuck }
+
+  -- it leaves the links of effects alone
+  pub read-reads : (s : St) (n : ℕ) → Inside g nobody s → n < g .size → readable (g .kind n) ≡ true → (e : ℕ) → g .kind e ≡ effect → SameReads (g .kind) s (settle s n) e
+  read-reads s n i h r e k =
+      let z = size-is nobody s i in
+      let w = settle-inside g st (s .size) (fresh (s .size)) (fresh-inside g st (s .size)) nobody s n i (nobody-open s) h r (λ m x q. absurd x) (omega arith) in
+      frame-reads g st nobody (Low g (suc n)) (suc n) s (settle s n) e i (w .frame) (λ p. clash (ap isEffect k) (ap isEffect (p .0)))
 
   -- ---- an effect e under way: its owner's link, and its own links
   pub record Owns (s : St) (e : ℕ) : Type 0 where
@@ -226,13 +233,15 @@ module _ (g : Given) (st : Static g) where
             alive = d .flags e outside .1 ∙ owns-went .alive;
           } in
           let few : length (readLinks (g .kind) (t .dep) (t .done e)) ≤ reads-of g st e =
-          let a = reads-few (g .kind) (t .dep) (t .done e) in let b = went .few in let c = ap (λ (x : List ℕ). length x) (p .done) in omega arith in
-          (record {
-            inside = let-out g nobody t e (p .inside)
-                (lies-rests t (record { owns = own; tail = p .rest; few = few })
-                (λ j. nq (subst (In e) (queue-still ended t (purge-ring Still drops-still ended e) ∙ queue-went) j)) (d .flags e outside .0 ∙ up-same (o .st .fl) e f2));
-            stuck = d .stuck ∙ f-went .stuck;
-          }, λ m h k ne a. reads-then (g .kind) s ended t m (first-reads m k ne) (purge-reads g st (Run e) ended t e m p h k (off m ne) ne a))
+          let a = reads-few (g .kind) (t .dep) (t .done e) in let b = went .few in let c = ap (λ (x : List ℕ). length x) (p .done) in omega arith in (
+            record {
+              inside = let-out g nobody t e (p .inside)
+                  (lies-rests t (record { owns = own; tail = p .rest; few = few })
+                  (λ j. nq (subst (In e) (queue-still ended t (purge-ring Still drops-still ended e) ∙ queue-went) j)) (d .flags e outside .0 ∙ up-same (o .st .fl) e f2));
+              stuck = d .stuck ∙ f-went .stuck;
+            },
+            λ m h k ne a. reads-then (g .kind) s ended t m (first-reads m k ne) (purge-reads g st (Run e) ended t e m p h k (off m ne) ne a),
+          )
         where
           off : (m : ℕ) → (m ≡ e → ⊥) → Run e m → ⊥
           off m ne (inr q) = ne q
