@@ -13,7 +13,7 @@ use Rattle.primitive.specs.declared.flags.Named.{Named}
 use Rattle.formula.specs.Trees.{Tree, names}
 use Rattle.meaning.specs.State.{St, Kind, signal, computed, effect, scope, readable, deps, f0, f17, up}
 use Rattle.meaning.specs.Setters.{setFl, setGone}
-use Rattle.meaning.specs.Links.{isNil, headOf, remove, each, cut, rewind, purgeW, lastLink, disposeW, unwatchedW, unlinkN, purge, dispose}
+use Rattle.meaning.specs.Links.{isNil, headOf, remove, each, cut, rewind, purgeW, lastLink, disposeW, unwatchedW, unlinkN, budget, purge, dispose}
 use Rattle.meaning.specs.Reserve.{reserveOf}
 use Rattle.meaning.specs.WellFormed.{In, Once, Lists, readLinks, ComputedFlags, never, clean, stale, maybe, dirty, EffectFlags, watching, pending}
 use Rattle.meaning.proofs.Laws.{clash, false≢true, either, none-some, branch, up-same, up-other, up-by, in-right}
@@ -586,7 +586,7 @@ module _ (g : Given) (st : Static g) where
   pub purge-inside : (X : Set) (s : St) (u : ℕ) → Inside g X s → X u → ((m : ℕ) → Strict u m → X m → ⊥) → Purged X s u (purge s u)
   purge-inside X s u i xu apart =
       let e : s .room .slots ≡ g .room .slots = ap (λ (z : Given). z .room .slots) (i .same) in
-      purge-all (suc (s .room .slots)) (unlinkN (suc (s .room .slots))) (unlink-inside (suc (s .room .slots))) X u xu apart (s .rest u) s i refl (omega arith)
+      purge-all (budget s) (unlinkN (budget s)) (unlink-inside (budget s)) X u xu apart (s .rest u) s i refl (omega arith)
 
   -- ---- an effect that is still live keeps its read links
   not-fallen : (X : Set) (t : St) (e : ℕ) {C : Type 0} → Inside g X t → e < g .size → g .kind e ≡ effect → (X e → ⊥) → t .gone e ≡ false → Fallen t e → C
@@ -608,8 +608,8 @@ module _ (g : Given) (st : Static g) where
     abbrev K : ℕ
     K = s .room .slots
 
-    budget : (t : St) → g .room .slots ≤ K + length (t .free)
-    budget t = let e : s .room .slots ≡ g .room .slots = ap (λ (z : Given). z .room .slots) (i .same) in omega arith
+    in-time : (t : St) → g .room .slots ≤ K + length (t .free)
+    in-time t = let e : s .room .slots ≡ g .room .slots = ap (λ (z : Given). z .room .slots) (i .same) in omega arith
 
     abbrev begun : St
     begun = setGone (setFl (rewind s x) x f0) x true
@@ -625,7 +625,7 @@ module _ (g : Given) (st : Static g) where
 
     purged : Purged X begun x emptied
     purged =
-        let b = budget begun in
+        let b = in-time begun in
         purge-all (suc K) (unlinkN (suc K)) (unlink-inside (suc K)) X x (inr refl) away (begun .rest x) begun i-begun refl (omega arith)
 
     outside : Strict x x → ⊥
@@ -776,7 +776,7 @@ module _ (g : Given) (st : Static g) where
           (λ a. branch P (isNil (c .subs d))
           (λ q. subst (λ (y : ℕ). P (unwatchedW (unlinkN K) c y)) (sym (linked .1))
           (branch P (c .fl x .mutable) (λ m. clash m (ap (λ (z : Named). z .mutable) flag))
-          (λ m. let w = dispose-bare K (unlinkN K) (unlink-inside K) nobody c x x i-left h r alone (λ n y z. z) (budget c) in (w .0, w .1 .stuck, after _ (w .0) (w .2) (w .1 .dep)))))
+          (λ m. let w = dispose-bare K (unlinkN K) (unlink-inside K) nobody c x x i-left h r alone (λ n y z. z) (in-time c) in (w .0, w .1 .stuck, after _ (w .0) (w .2) (w .1 .dep)))))
           (λ q. absurd (isNil-false (c .subs d) q (subst (λ (y : ℕ). c .subs y ≡ []) (sym (linked .1)) alone))))
           (λ a. clash (linked .0) a)
 

@@ -10,7 +10,7 @@ use borrow.Author.Tests.{eqb-true, eqb-false}
 use Rattle.primitive.specs.declared.flags.Named.{Named}
 use Rattle.meaning.specs.State.{St, unclean, recursing, withPending, withWatching, up}
 use Rattle.meaning.specs.Links.{several}
-use Rattle.meaning.specs.Marks.{Marks, marksOf, halt, chain, calm, notify, mark, prop, propagate}
+use Rattle.meaning.specs.Marks.{Marks, marksOf, halt, chain, calm, notify, mark, stackFull, prop, turns, propagate}
 use Rattle.meaning.specs.WellFormed.{In}
 use Rattle.meaning.specs.Reach.{Reached, near, far}
 use Rattle.meaning.proofs.Laws.{clash, either, or-true, or-one, or-none, or-left, or-right, branch, up-other, up-by, in-left, in-right, in-cases}
@@ -165,7 +165,7 @@ module _ (s : St) (d : ℕ) where
       (λ a. branch Ends (m .fl u .mutable)
       (λ b. let mu : s .fl u .mutable ≡ true = sym (h .mut u) ∙ b in
       let next : Going s d (mark s m u .fl) (s .subs u ++ all w st) = step m l (all w st) (s .subs u) h a (λ x i. (mu, i)) (λ x c i. i) in
-      branch Ends (several (s .subs u)) (λ c. walk k (halt (mark s m u) (leb (s .room .nodes) (length st))) (s .subs u) (w ∷ st) next)
+      branch Ends (several (s .subs u)) (λ c. walk k (halt (mark s m u) (stackFull s st)) (s .subs u) (w ∷ st) next)
       (λ c. walk k (mark s m u) (s .subs u ++ w) st (subst (Going s d (mark s m u .fl)) (sym (all-append (s .subs u) w st)) next)))
       (λ b. walk k (mark s m u) w st (step m l (all w st) [] h a (λ x i. absurd i) (λ x c i. clash c (sym (h .mut u) ∙ b))))))
 
@@ -198,7 +198,7 @@ module _ (s : St) (d : ℕ) where
 
   module _ (goes : propagate s d .stuck ≡ false) where
     ended : Going s d (propagate s d .fl) []
-    ended = walk (suc (s .room .slots + s .room .slots)) (marksOf s) (s .subs d) [] begin goes
+    ended = walk (turns s) (marksOf s) (s .subs d) [] begin goes
 
     pub marks-reached : (u : ℕ) → (propagate s d .fl u .pending ≡ true) ↔ ((s .fl u .pending ≡ true) ⊎ Reached s d u)
     marks-reached u = (ended .only u, back)

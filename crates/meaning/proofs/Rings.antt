@@ -10,7 +10,7 @@ use Rattle.primitive.specs.Values.{isZero}
 use Rattle.formula.specs.Trees.{Tree, constant, read, two, choose}
 use Rattle.meaning.specs.State.{St, Kind, signal, computed, effect, scope, Row, bare, f0, f1, f2, f5, f6, f17, withPending, raised, deps}
 use Rattle.meaning.specs.Setters.{withCycle, withLog, withQueue, setFl, setSto, setGone}
-use Rattle.meaning.specs.Links.{stop, isNil, headOf, several, each, link, cut, rewind, purgeW, lastLink, disposeW, unwatchedW, unlinkN, purge, dispose}
+use Rattle.meaning.specs.Links.{stop, isNil, headOf, several, each, link, cut, rewind, purgeW, lastLink, disposeW, unwatchedW, unlinkN, budget, purge, dispose}
 use Rattle.meaning.specs.Marks.{shallow}
 use Rattle.meaning.specs.Reads.{Ans, Out, evalBy, settleW, readW, firstW, updComputed, updSignal, updW, sameSlots, steady, checkOn, checkW, pendingW, freshW, fresh, settle, check, evaluate}
 use Rattle.meaning.specs.Engine.{logged, rerun, run, flushOn}
@@ -61,10 +61,10 @@ module _ (R : St → St → Type 0) (r : Drops R) where
       (λ v. r .stops s)
 
   pub purge-ring : (s : St) (u : ℕ) → R s (purge s u)
-  purge-ring s u = each-ring (unlinkN (suc (s .room .slots))) (unlink-ring (suc (s .room .slots))) (s .rest u) s
+  purge-ring s u = each-ring (unlinkN (budget s)) (unlink-ring (budget s)) (s .rest u) s
 
   pub dispose-ring : (s : St) (x : ℕ) → R s (dispose s x)
-  dispose-ring s x = disposeW-ring (unlinkN (suc (s .room .slots))) (unlink-ring (suc (s .room .slots))) s x
+  dispose-ring s x = disposeW-ring (unlinkN (budget s)) (unlink-ring (budget s)) s x
 
 -- ---- the second ring
 pub record Renews (R : St → St → Type 0) : Type 0 where

@@ -12,7 +12,7 @@ use Rattle.primitive.specs.Values.{same}
 use Rattle.meaning.specs.State.{St, effect, scope, f6, f17, nothing, unclean, recursing, deps}
 use Rattle.meaning.specs.Setters.{withDepth, withLog, setFl, setPend}
 use Rattle.meaning.specs.Links.{isNil, several, headOf, lastOf, goesTo, isFrom, renew, spent, insert, link, cut, unlinkN}
-use Rattle.meaning.specs.Marks.{Marks, marksOf, halt, chain, effects, notify, mark, prop, propagate, wakes, shallow}
+use Rattle.meaning.specs.Marks.{Marks, marksOf, halt, chain, effects, notify, mark, stackFull, prop, turns, propagate, wakes, shallow}
 use Rattle.meaning.specs.Reads.{Ans, updW, checkW, fresh}
 use Rattle.meaning.specs.Engine.{logged, flushOn, flushAt, store, node, owned, newSignal, newComputed, newScope, newEffect, endAt}
 use Rattle.meaning.specs.Words.{Command, makeSignal, makeComputed, makeEffect, makeScope, setTo, addTo, readOf, disposeOf, batchStart, batchEnd, commandOf, nodeOf, ownerOf, formulaOf}
@@ -134,7 +134,7 @@ prop-sticks s (suc k) m (l ∷ w) st h =
     (λ a. branch (λ (x : Marks). x .stuck ≡ true) (unclean (m .fl u)) (λ b. prop-sticks s k m w st h)
     (λ b. branch (λ (x : Marks). x .stuck ≡ true) (m .fl u .mutable)
     (λ c. branch (λ (x : Marks). x .stuck ≡ true) (several (s .subs u))
-    (λ d. prop-sticks s k (halt (mark s m u) (leb (s .room .nodes) (length st))) (s .subs u) (w ∷ st) (or-first (mark s m u .stuck) _ p))
+    (λ d. prop-sticks s k (halt (mark s m u) (stackFull s st)) (s .subs u) (w ∷ st) (or-first (mark s m u .stuck) _ p))
     (λ d. prop-sticks s k (mark s m u) (s .subs u ++ w) st p))
     (λ c. prop-sticks s k (mark s m u) w st p)))
 
@@ -145,7 +145,7 @@ store-sticks s n v =
     let p = propagate t n in
     branch (Sticks s) (same (s .pend n) v) (λ a e. e)
     (λ a. branch (Sticks s) (isNil (s .subs n)) (λ b e. e)
-    (λ b e. at p (p .depth) (prop-sticks t (suc (t .room .slots + t .room .slots)) (marksOf t) (t .subs n) [] e)))
+    (λ b e. at p (p .depth) (prop-sticks t (turns t) (marksOf t) (t .subs n) [] e)))
   where
     at : (p : St) (d : ℕ) → Sticks p (flushAt p d)
     at p zero = flush-sticks (p .queue) p

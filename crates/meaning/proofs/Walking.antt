@@ -14,7 +14,7 @@ use Rattle.primitive.specs.Values.{same}
 use Rattle.meaning.specs.State.{St, signal, readable, unclean, recursing, f17, up}
 use Rattle.meaning.specs.Setters.{setFl, setPend}
 use Rattle.meaning.specs.Links.{isNil, several}
-use Rattle.meaning.specs.Marks.{Marks, marksOf, withMarks, halt, notify, mark, prop, propagate}
+use Rattle.meaning.specs.Marks.{Marks, marksOf, withMarks, halt, notify, mark, stackFull, prop, turns, propagate}
 use Rattle.meaning.specs.Engine.{flushAt, store}
 use Rattle.meaning.specs.Reserve.{total}
 use Rattle.meaning.specs.WellFormed.{In}
@@ -108,8 +108,8 @@ module _ (g : Given) (st : Static g) (s : St) where
       (λ sv. let some = some-several (s .subs u) sv in
       let fit = st .nodes-fit in
       let rm : s .room .nodes ≡ g .room .nodes = ap (λ (z : Given). z .room .nodes) (i .same) in
-      let low : leb (s .room .nodes) (length st′) ≡ false = lt-leb (s .room .nodes) (length st′) (omega arith) in
-      let h = halt m′ (leb (s .room .nodes) (length st′)) in
+      let low : stackFull s st′ ≡ false = lt-leb (s .room .nodes) (length st′) (omega arith) in
+      let h = halt m′ (stackFull s st′) in
       let x = prop-inside k h (s .subs u) (w ∷ st′) (stuck-inside g nobody (withMarks s m′) (h .stuck) (n .inside)) oku (λ y j. ok y (inr j), oks) (omega arith) (omega arith) in
       record { inside = x .inside; stuck = x .stuck ∙ ap (λ (z : Bool). m′ .stuck || z) low ∙ or-false (m′ .stuck) ∙ n .stuck })
       (λ sv. let wa = work-append (s .subs u) w st′ in
@@ -148,7 +148,7 @@ module _ (g : Given) (st : Static g) (s : St) where
       let c : clean-sum (s .fl) cost (g .size) + cost d ≤ total cost (g .size) = total-spare (λ n. unless (unclean (s .fl n)) (cost n)) cost (g .size) d (cost d) h (omega arith) (λ n lt. unless-most (unclean (s .fl n)) (cost n)) in
       let e : s .room .slots ≡ g .room .slots = ap (λ (z : Given). z .room .slots) (i .same) in
       let o = total-ones (λ n. unless (unclean (s .fl n)) 1) (g .size) (λ n. unless-most (unclean (s .fl n)) 1) in
-      let k = prop-inside (suc (s .room .slots + s .room .slots)) (marksOf s) (s .subs d) [] i
+      let k = prop-inside (turns s) (marksOf s) (s .subs d) [] i
       (λ l j. let x = i .lists .subs-live l d j in (x .0, ap (λ (z : ℕ). readable (g .kind z)) (x .1) ∙ r)) tt (omega arith) (omega arith) in
       record { inside = k .inside; stuck = k .stuck }
 

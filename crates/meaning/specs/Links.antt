@@ -119,11 +119,14 @@ unlinkN (suc k) s l =
     ]
 
 -- the number of slots is budget enough: each unlink frees one before it calls on
+abbrev pub budget : St → ℕ
+budget s = suc (s .room .slots)
+
 abbrev pub unlink : St → ℕ → St
-unlink s l = unlinkN (suc (s .room .slots)) s l
+unlink s l = unlinkN (budget s) s l
 
 abbrev pub purge : St → ℕ → St
-purge s u = purgeW (unlinkN (suc (s .room .slots))) s u
+purge s u = purgeW (unlinkN (budget s)) s u
 
 abbrev pub dispose : St → ℕ → St
-dispose s x = disposeW (unlinkN (suc (s .room .slots))) s x
+dispose s x = disposeW (unlinkN (budget s)) s x

@@ -63,7 +63,11 @@ mark s m u =
     let t = marks (up (m .fl) u (withPending (m .fl u) true)) (m .queue) (m .stuck) in
     elim (m .fl u .watching) [ true ↦ notify s t u | false ↦ t ]
 
--- w: the links to visit next; st: the lists put aside on the way down, a stack of at most as many as nodes
+-- the stack of lists put aside holds at most as many as nodes
+abbrev pub stackFull : St → List (List ℕ) → Bool
+stackFull s st = leb (s .room .nodes) (length st)
+
+-- w: the links to visit next; st: the lists put aside on the way down
 unfoldable pub prop : St → ℕ → Marks → List ℕ → List (List ℕ) → Marks
 prop s zero m w st = halt m true
 prop s (suc k) m [] [] = m
@@ -77,7 +81,7 @@ prop s (suc k) m (l ∷ w) st =
         | false ↦ elim (m .fl u .mutable) [
           | false ↦ prop s k (mark s m u) w st
           | true ↦ elim (several (s .subs u)) [
-            | true ↦ prop s k (halt (mark s m u) (leb (s .room .nodes) (length st))) (s .subs u) (w ∷ st)
+            | true ↦ prop s k (halt (mark s m u) (stackFull s st)) (s .subs u) (w ∷ st)
             | false ↦ prop s k (mark s m u) (s .subs u ++ w) st
           ]
         ]
@@ -85,8 +89,11 @@ prop s (suc k) m (l ∷ w) st =
     ]
 
 -- each link is visited at most once, and puts at most one list aside
+abbrev pub turns : St → ℕ
+turns s = suc (s .room .slots + s .room .slots)
+
 abbrev pub propagate : St → ℕ → St
-propagate s d = withMarks s (prop s (suc (s .room .slots + s .room .slots)) (marksOf s) (s .subs d) [])
+propagate s d = withMarks s (prop s (turns s) (marksOf s) (s .subs d) [])
 
 -- ---- shallow propagate
 -- the pending subscribers are dirty
