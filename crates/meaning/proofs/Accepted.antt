@@ -23,7 +23,7 @@ use Rattle.meaning.specs.Reserve.{reserve, reserveOf}
 use Rattle.meaning.specs.Refusals.{Sight, sightOf, asksOf, aSignal, anOwner, isA, unknown, wrongOwner, wrongNode, isGone, goneNode, allReadable, legalTree, illegal, badFormula, treeIn, over, tooHigh, full, noRoom, wrongDepth, table, refusal, mostLevel, mostDepth}
 use Rattle.meaning.specs.WellFormed.{In, WellFormed}
 use Rattle.meaning.specs.Commands.{perform, performAny, answer, command, afterAll}
-use Rattle.meaning.proofs.Laws.{false≢true, none-some, branch, or-left, or-right}
+use Rattle.meaning.proofs.Laws.{false≢true, none-some, same-some, branch, or-left, or-right}
 use Rattle.meaning.proofs.Rings.{dispose-ring, settle-ring}
 use Rattle.meaning.proofs.Still.{Given, given, Fixed, Still, drops-still, renews-still}
 use Rattle.meaning.proofs.Flush.{Lasting, run-lasts, flush-empties}
@@ -111,10 +111,7 @@ module _ (s : St) (rows : ℕ) (w : WellFormed s) where
   owner-fits : (o : ℤ) → wrongOwner v o ≡ false → isGone v o ≡ false → (p : ℕ) → ownerOf o ≡ some p → (p < s .size) × (readable (s .kind p) ≡ false) × (s .gone p ≡ false)
   owner-fits (pos q) a b p e =
       let x = known anOwner (pos q) (not-false (isA v anOwner (pos q)) a) in
-      subst (λ (z : ℕ). (z < s .size) × (readable (s .kind z) ≡ false) × (s .gone z ≡ false)) (un e) (x .0, not-true (readable (s .kind q)) (x .1), b)
-    where
-      un : {a c : ℕ} → some a ≡ some c → a ≡ c
-      un z = cc
+      subst (λ (z : ℕ). (z < s .size) × (readable (s .kind z) ≡ false) × (s .gone z ≡ false)) (same-some e) (x .0, not-true (readable (s .kind q)) (x .1), b)
   owner-fits (negsuc q) a b p e = none-some e
 
   readable-known : (ns : List ℕ) → allReadable v ns ≡ true → (m : ℕ) → In m ns → (m < s .size) × (readable (s .kind m) ≡ true)

@@ -27,12 +27,6 @@ module _ (g : Given) (X : Set) (s : St) (l : ℕ) (i : Inside g X s) (lv : s .li
   abbrev o : Slots g s
   o = i .lists
 
-  abbrev d : ℕ
-  d = s .dep l
-
-  abbrev u : ℕ
-  u = s .sub l
-
   cut-deps : (v : ℕ) → deps (cut s l) v ≡ remove l (deps s v)
   unfolding cut
   cut-deps v =

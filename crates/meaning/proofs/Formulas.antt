@@ -19,7 +19,7 @@ use Rattle.formula.specs.Trees.{Tree, constant, read, two, choose, codeOf, writ
 use Rattle.formula.specs.Legal.{mostCells, mostNesting}
 use Rattle.formula.proofs.Written.{WrittenAs, cell-written, length-written, regroup}
 use Rattle.meaning.specs.Words.{Part, after, grown, parse, alone, treeOf}
-use Rattle.meaning.proofs.Laws.{none-some}
+use Rattle.meaning.proofs.Laws.{none-some, same-some}
 
 -- ---- what is written is found
 cell-two : (o : Op) → cellOf (pos (codeOf o)) (pos 0) ≡ Two o
@@ -53,9 +53,6 @@ parse-written (choose c a b) (suc k) rest h =
     ∙ ap (λ (r : Part). after r (λ v u. some (choose c a v, u))) q
 
 -- ---- what is found is written
-same-some : {A : Type 0} {x y : A} → some x ≡ some y → x ≡ y
-same-some e = cc
-
 after-some : (r : Part) (f : Tree → List ℤ → Part) (p : Tree × List ℤ) → after r f ≡ some p → (x : Tree × List ℤ) × (r ≡ some x) × (f (x .0) (x .1) ≡ some p)
 unfolding after
 after-some none f p e = none-some e

@@ -131,9 +131,6 @@ at-same g queue dep sub n f h a b d d′ r r′ u u′ e₁ e₂ e₃ e₄ e₅ 
     (subst (λ (z : Bool). AtRest g queue dep sub n h z d r u) (sym e₂) (subst (λ (z : Named). AtRest g queue dep sub n z a d r u) (sym e₁) x))))
 
 -- ---- flags tell kinds
-two-kinds : {C : Type 0} → _≡_ {A = ℕ} 0 1 → C
-two-kinds e = absurd (omega arith)
-
 module _ (g : Given) (queue : List ℕ) (dep sub : ℕ → ℕ) (n : ℕ) (f : Named) (gn : Bool) (done rest subs : List ℕ) (r : AtRest g queue dep sub n f gn done rest subs) where
   effect-still : EffectFlags n f queue (readLinks (g .kind) dep done) → (f .mutable ≡ false)
   effect-still (watching e q) = ap (λ (z : Named). z .mutable) e
@@ -181,9 +178,6 @@ module _ (g : Given) (queue : List ℕ) (dep sub : ℕ → ℕ) (n : ℕ) (f : N
 
 -- ---- at rest
 module _ (s : St) (w : WellFormed s) where
-  abbrev G : Given
-  G = given s
-
   pub static : Static (given s)
   static = record {
     names-lower = w .limits .names-lower;

@@ -65,6 +65,9 @@ or-right false b e = e
 pub none-some : {C : Type 0} {A : Type 0} {x : A} → none ≡ some x → C
 none-some e = let z : _≡_ {A = ℕ} 0 1 = cc in absurd (omega arith)
 
+pub same-some : {A : Type 0} {x y : A} → some x ≡ some y → x ≡ y
+same-some e = cc
+
 -- ---- columns
 module _ {ℓ} {A : Type ℓ} (f : ℕ → A) (n : ℕ) (v : A) where
   pub up-same : up f n v n ≡ v

@@ -22,7 +22,7 @@ use Rattle.meaning.specs.Engine.{logged, node, owned, newSignal, newComp
 use Rattle.meaning.specs.Reserve.{reserveOf}
 use Rattle.meaning.specs.Refusals.{mostDepth}
 use Rattle.meaning.specs.WellFormed.{In, readLinks, never, EffectFlags, WellFormed}
-use Rattle.meaning.proofs.Laws.{clash, false≢true, either, branch, or-false, none-some, up-same, up-other, in-left}
+use Rattle.meaning.proofs.Laws.{clash, false≢true, either, branch, or-false, none-some, same-some, up-same, up-other, in-left}
 use Rattle.meaning.proofs.Members.{reads-append, reads-agree, reads-sub}
 use Rattle.meaning.proofs.Rings.{evaluate-ring}
 use Rattle.meaning.proofs.Still.{Given, given, Fixed, Still, renews-still}
@@ -220,9 +220,6 @@ module _ (s : St) (w : WellFormed s) (k : Kind) (t : Tree) (b : Named) (v : Valu
         in-x m (inl (inr q)) = inl (inr q)
         in-x m (inr q) = inr q
 
-        same-some : {a c : ℕ} → some a ≡ some c → a ≡ c
-        same-some q = cc
-
         not-read : readLinks (g .kind) (up (s .dep) l n) (l ∷ []) ≡ []
         not-read = rw (up-same (s .dep) l n, readLinks, rn)
 
@@ -238,10 +235,7 @@ module _ (s : St) (w : WellFormed s) (k : Kind) (t : Tree) (b : Named) (v : Valu
         last-in (x ∷ xs) l e = go (lastOf xs) refl e (λ m. last-in xs m)
           where
             go : (o : Option ℕ) → lastOf xs ≡ o → _≡_ {A = Option ℕ} (elim o [ none ↦ some x | some y ↦ some y ]) (some l) → ((m : ℕ) → lastOf xs ≡ some m → In m xs) → In l (x ∷ xs)
-            go none q z rec = inl (sym (un z))
-              where
-                un : {a c : ℕ} → some a ≡ some c → a ≡ c
-                un y = cc
+            go none q z rec = inl (sym (same-some z))
             go (some y) q z rec = inr (rec l (q ∙ z))
 
         not-last : (xs : List ℕ) → ((l : ℕ) → In l xs → In l (M .done p)) → goesTo M (lastOf xs) n ≡ true → ⊥
