@@ -173,7 +173,7 @@ module _ (s : St) (rows : ℕ) (w : WellFormed s) where
   end-well zero e h = absurd (h refl)
   end-well (suc zero) e h =
       let t = withDepth (withLog s []) 0 in
-      let r = flush-inside g st (s .queue) t (others g nobody (withLog s []) i (s .cycle) (s .sto) (s .pend) 0 []) refl in
+      let r = flush-inside g st (s .queue) t (others g nobody (withLog s []) i (s .cycle) (s .sto) (s .pend) 0 [] (s .stuck)) refl in
       let d = flush-depth (s .queue) t in
       record { formed = at-rest g (flush t) st (r .inside) (λ z. flush-empties t) (subst (λ (x : ℕ). x ≤ mostDepth) (sym d) (omega arith)); stuck = r .stuck }
   end-well (suc (suc d)) e h = record { formed = subst (λ (x : ℕ). WellFormed (endAt (withLog s []) x)) e (inner-end-well-formed (withLog s []) d e logless); stuck = refl }

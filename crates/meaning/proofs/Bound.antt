@@ -89,7 +89,7 @@ module _ (s : St) (rows : ℕ) (w : WellFormed s) where
 
   ends-bound : (d : ℕ) → Bound s (endAt (withLog s []) d)
   ends-bound zero = by-same _ refl (λ m lo ke a. record { links = refl; ends = λ l j. refl })
-  ends-bound (suc zero) = flushed (withDepth (withLog s []) 0) (others g nobody (withLog s []) i (s .cycle) (s .sto) (s .pend) 0 []) refl refl refl refl
+  ends-bound (suc zero) = flushed (withDepth (withLog s []) 0) (others g nobody (withLog s []) i (s .cycle) (s .sto) (s .pend) 0 [] (s .stuck)) refl refl refl refl
   ends-bound (suc (suc d)) = by-same _ refl (λ m lo ke a. record { links = refl; ends = λ l j. refl })
 
   perform-bound : (c : Command) → NoneHolds (table true v (some c)) → Bound s (perform (withLog s []) c .st)

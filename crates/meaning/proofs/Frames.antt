@@ -10,7 +10,7 @@ use Rattle.primitive.specs.declared.flags.Named.{Named}
 use Rattle.primitive.specs.declared.values.Value.{Value}
 use Rattle.formula.specs.Trees.{names}
 use Rattle.meaning.specs.State.{St, Kind, signal, computed, effect, scope, Row, readable, deps, f1}
-use Rattle.meaning.specs.Setters.{withCycle, withSto, withPend, withDepth, withLog}
+use Rattle.meaning.specs.Setters.{withCycle, withSto, withPend, withDepth, withLog, withStuck}
 use Rattle.meaning.specs.Reserve.{reserveOf}
 use Rattle.meaning.specs.WellFormed.{In, readLinks, clean}
 use Rattle.meaning.proofs.Laws.{clash, either, none-some}
@@ -22,8 +22,8 @@ use Rattle.meaning.proofs.Dropping.{aComputed, Purged}
 use Rattle.meaning.proofs.Room.{spends, Paid}
 
 -- ---- columns that well-formedness does not look at
-pub others : (g : Given) (X : Set) (s : St) → Inside g X s → (c : ℕ) (f p : ℕ → Value) (d : ℕ) (l : List Row) → Inside g X (withLog (withDepth (withPend (withSto (withCycle s c) f) p) d) l)
-others g X s i c f p d l = record {
+pub others : (g : Given) (X : Set) (s : St) → Inside g X s → (c : ℕ) (f p : ℕ → Value) (d : ℕ) (l : List Row) (b : Bool) → Inside g X (withStuck (withLog (withDepth (withPend (withSto (withCycle s c) f) p) d) l) b)
+others g X s i c f p d l b = record {
   same = i .same;
   lists = i .lists;
   goes = i .goes;

@@ -19,6 +19,7 @@ use Rattle.meaning.proofs.Members.{nil-none, in-or-not, once-both, most
 use Rattle.meaning.proofs.Still.{Given}
 use Rattle.meaning.proofs.Inside.{Set, nobody, also, Static, Goes, AtRest, Rests, Inside, widen, let-out, owner-owns}
 use Rattle.meaning.proofs.Dropping.{aComputed, flags-inside}
+use Rattle.meaning.proofs.Frames.{others}
 use Rattle.meaning.proofs.Running.{Goes-on}
 
 -- ---- lists the other way round
@@ -61,17 +62,7 @@ calm-in (e ∷ c) f n o (inr i) =
     ∙ ap (λ (z : Named). withWatching z false) (up-other f e (withWatching (f e) false) n (λ q. o .0 (subst (λ (z : ℕ). In z c) q i)))
 
 pub stuck-inside : (g : Given) (X : Set) (s : St) (b : Bool) → Inside g X s → Inside g X (withStuck s b)
-stuck-inside g X s b i = record {
-  same = i .same;
-  lists = i .lists;
-  goes = i .goes;
-  gone-kind = i .gone-kind;
-  fits = i .fits;
-  no-wake = i .no-wake;
-  once = i .once;
-  effects = i .effects;
-  rests = i .rests;
-}
+stuck-inside g X s b i = others g X s i (s .cycle) (s .sto) (s .pend) (s .depth) (s .log) b
 
 -- ---- flags at rest
 pub no-recursing : (g : Given) (s : St) (n : ℕ) → Rests g s n → recursing (s .fl n) ≡ false

@@ -170,7 +170,7 @@ module _ (s : St) (rows : ℕ) (w : WellFormed s) where
   end-few zero e = omega arith
   end-few (suc zero) e =
       let t = withDepth (withLog s []) 0 in
-      let a = few-after t (others (given (withLog s [])) nobody (withLog s []) (rest-inside (withLog s []) wl) (s .cycle) (s .sto) (s .pend) 0 []) refl refl refl refl in
+      let a = few-after t (others (given (withLog s [])) nobody (withLog s []) (rest-inside (withLog s []) wl) (s .cycle) (s .sto) (s .pend) 0 [] (s .stuck)) refl refl refl refl in
       branch (λ (z : ℕ). length (flush t .log) ≤ z) (eqb (s .depth) 1) (λ q. a) (λ q. absurd (eqb-false (s .depth) 1 q e))
   end-few (suc (suc d)) e = omega arith
 

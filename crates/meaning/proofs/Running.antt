@@ -192,7 +192,7 @@ module _ (g : Given) (st : Static g) where
 
       i-ended : Inside g (Run e) ended
       unfolding logged
-      i-ended = flags-inside g (Run e) (logged o e) e (others g (Run e) (o .st) (went .inside) (o .st .cycle) (o .st .sto) (o .st .pend) (o .st .depth) (logged o e .log)) (inr refl) f2 (λ q. false≢true q)
+      i-ended = flags-inside g (Run e) (logged o e) e (others g (Run e) (o .st) (went .inside) (o .st .cycle) (o .st .sto) (o .st .pend) (o .st .depth) (logged o e .log) (o .st .stuck)) (inr refl) f2 (λ q. false≢true q)
 
       few-ended : length (readLinks (g .kind) (o .st .dep) (o .st .done e)) ≤ reads-of g st e
       few-ended = let a = reads-few (g .kind) (o .st .dep) (o .st .done e) in let b = went .few in omega arith
@@ -254,7 +254,7 @@ module _ (g : Given) (st : Static g) where
     rerun-inside s i l pd nq =
         let c = withCycle s (raised (s .cycle)) in
         let s₁ = setFl (rewind c e) e f6 in
-        let ic : Inside g (Run e) c = others g (Run e) s i (raised (s .cycle)) (s .sto) (s .pend) (s .depth) (s .log) in
+        let ic : Inside g (Run e) c = others g (Run e) s i (raised (s .cycle)) (s .sto) (s .pend) (s .depth) (s .log) (s .stuck) in
         let i₁ : Inside g (Run e) s₁ = flags-inside g (Run e) (rewind c e) e (rewind-inside g (Run e) c e ic (inr refl)) (inr refl) f6 (λ q. false≢true q) in
         let f₁ : Frame g (Near g st e) e s s₁ = frame-flags g (Near g st e) e s s₁ refl refl refl refl refl refl
         (λ m z. (up-other (s .done) e [] m (λ q. z (inr q)), up-other (s .rest) e (s .done e ++ s .rest e) m (λ q. z (inr q))))

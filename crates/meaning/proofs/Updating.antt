@@ -108,7 +108,7 @@ module _ (g : Given) (st : Static g) where
       stored = setFl (setSto (out .st) n (out .val)) n f1
 
       i-stored : Inside g (also X n) stored
-      i-stored = flags-inside g (also X n) (setSto (out .st) n (out .val)) n (others g (also X n) (out .st) (went .inside) (out .st .cycle) (up (out .st .sto) n (out .val)) (out .st .pend) (out .st .depth) (out .st .log)) (inr refl) f1 (λ q. refl)
+      i-stored = flags-inside g (also X n) (setSto (out .st) n (out .val)) n (others g (also X n) (out .st) (went .inside) (out .st .cycle) (up (out .st .sto) n (out .val)) (out .st .pend) (out .st .depth) (out .st .log) (out .st .stuck)) (inr refl) f1 (λ q. refl)
 
       f-stored : Frame g (Low g (suc n)) n s stored
       f-stored =
@@ -183,7 +183,7 @@ module _ (g : Given) (st : Static g) where
       update-inside kn un =
           let c = withCycle s (raised (s .cycle)) in
           let s₁ = setFl (rewind c n) n f5 in
-          let ic : Inside g (also X n) c = others g (also X n) s wide (raised (s .cycle)) (s .sto) (s .pend) (s .depth) (s .log) in
+          let ic : Inside g (also X n) c = others g (also X n) s wide (raised (s .cycle)) (s .sto) (s .pend) (s .depth) (s .log) (s .stuck) in
           let i₁ : Inside g (also X n) s₁ = flags-inside g (also X n) (rewind c n) n (rewind-inside g (also X n) c n ic (inr refl)) (inr refl) f5 (λ q. refl) in
           let off : (m : ℕ) → (Low g (suc n) m → ⊥) → m ≡ n → ⊥ = λ m z x. z (ap (g .kind) x ∙ kn, omega arith) in
           let f₁ : Frame g (Low g (suc n)) n s s₁ = frame-flags g (Low g (suc n)) n s s₁ refl refl refl refl refl refl
@@ -200,7 +200,7 @@ module _ (g : Given) (st : Static g) where
       unfolding updSignal
       signal-inside kn un =
           let t = setSto (setFl s n f1) n (s .pend n) in
-          let it : Inside g (also X n) t = others g (also X n) (setFl s n f1) (flags-inside g (also X n) s n wide (inr refl) f1 (λ q. refl)) (s .cycle) (up (s .sto) n (s .pend n)) (s .pend) (s .depth) (s .log) in
+          let it : Inside g (also X n) t = others g (also X n) (setFl s n f1) (flags-inside g (also X n) s n wide (inr refl) f1 (λ q. refl)) (s .cycle) (up (s .sto) n (s .pend n)) (s .pend) (s .depth) (s .log) (s .stuck) in
           let r = i .rests n h (n-off (ap readable kn)) in
           record {
             inside = let-out g X t n it

@@ -160,7 +160,7 @@ module _ (g : Given) (st : Static g) (s : St) (n : ℕ) (v : Value) (i : Inside 
   i-written : Inside g nobody written
   i-written =
       let it : Inside g (also nobody n) written =
-      flags-inside g (also nobody n) (setPend s n v) n (others g (also nobody n) s (widen g nobody (also nobody n) s (λ m z. absurd z) i) (s .cycle) (s .sto) (up (s .pend) n v) (s .depth) (s .log)) (inr refl) f17 (λ q. refl) in
+      flags-inside g (also nobody n) (setPend s n v) n (others g (also nobody n) s (widen g nobody (also nobody n) s (λ m z. absurd z) i) (s .cycle) (s .sto) (up (s .pend) n v) (s .depth) (s .log) (s .stuck)) (inr refl) f17 (λ q. refl) in
       let r = i .rests n h (λ z. z) in
       let w : Rests g written n = record {
         tail = r .tail;
