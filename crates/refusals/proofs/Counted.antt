@@ -12,7 +12,8 @@ use Rattle.primitive.specs.Words.{KIND, GONE, READS, OWNER, SIGNAL, COMPUTED, E
 use Rattle.formula.specs.Trees.{Tree, names}
 use Rattle.counts.specs.Counts.{total, row, ownedLink, reserveOf, effectOf}
 use Rattle.meaning.specs.State.{Kind, signal, computed, effect, scope}
-use Rattle.meaning.specs.Refusals.{total as totalOf, ownedLink as ownedLinkOf, unlessGone, reserveOf as reserveFrom, effectOf as effectFrom}
+use Rattle.meaning.specs.Reserve.{total as totalOf, ownedLink as ownedLinkOf, unlessGone, reserveOf as reserveFrom}
+use Rattle.meaning.specs.Refusals.{effectOf as effectFrom}
 use Rattle.refusals.specs.Sight.{either, kindOf}
 
 -- an owner word: 0 if there is none, else the owner's number and 1

@@ -22,8 +22,9 @@ use Rattle.formula.proofs.CellLaws.{natural-pos, natural-neg}
 use Rattle.counts.specs.Counts.{top, nodeRoom, slotRoom, cellRoom, reserveIn}
 use Rattle.meaning.specs.State.{Kind, signal, computed, effect, scope}
 use Rattle.meaning.specs.Words.{ownerOf, formulaOf, commandOf}
-use Rattle.meaning.specs.Engine.{depthUnder}
-use Rattle.meaning.specs.Refusals.{Sight, ownedLink, reserveFor, reserveOf, cellsOf, mostHeight, mostOwnerDepth, on, illegal, badFormula, treeIn, over, tooHigh, full, noRoom}
+use Rattle.meaning.specs.Engine.{depthUnder, cellsOf}
+use Rattle.meaning.specs.Reserve.{ownedLink, reserveFor, reserveOf}
+use Rattle.meaning.specs.Refusals.{Sight, mostHeight, mostOwnerDepth, on, illegal, badFormula, treeIn, over, tooHigh, full, noRoom}
 use Rattle.refusals.specs.declared.commands.Command.{Command}
 use Rattle.refusals.specs.Sight.{kindOf, nodesAlone, sightIn}
 use Rattle.refusals.specs.Commands.{brief}

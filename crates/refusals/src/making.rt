@@ -28,7 +28,8 @@ ghost use Rattle.formula.specs.Names.{readCells};
 ghost use Rattle.counts.specs.Counts.{top};
 ghost use Rattle.meaning.specs.Words.{commandOf, ownerOf};
 ghost use Rattle.meaning.specs.Engine.{depthUnder};
-ghost use Rattle.meaning.specs.Refusals.{on, ownedLink, mostOwnerDepth, badFormula, tooHigh, noRoom, first};
+ghost use Rattle.meaning.specs.Reserve.{ownedLink};
+ghost use Rattle.meaning.specs.Refusals.{on, mostOwnerDepth, badFormula, tooHigh, noRoom, first};
 ghost use Rattle.refusals.specs.Sight.{nodesAlone, sightIn};
 
 pub const MOST_OWNER_DEPTH: u64 = 16;
