@@ -1,0 +1,2 @@
+pub mod Scripts
+pub mod Table
