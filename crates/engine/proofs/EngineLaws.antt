@@ -76,7 +76,7 @@ module _ (n l : List ℕ) (v c g ws : List ℤ) {r : ℕ} (e : r ≡ refusalIn n
 
   pub command-done : {d : Done} → r ≡ 0 → d ≡ performed (state n l v) c g (brief (commandOf ws)) (formulaIn ws) → accepted d ≡ commandIn n l v c g ws
   unfolding commandIn answer
-  command-done h q = let z : refusalIn n l v c g ws ≡ 0 = sym e ∙ h in rw (z, commandIn, answer, ← q)
+  command-done h q = let z : refusalIn n l v c g ws ≡ 0 = sym e ∙ h in rw (z, commandIn, answer) (ap accepted q)
 
 -- ---- doing
 pub numbered-by : (l : List ℤ) {m o : Made} {x : ℤ} → m ≡ o → x ≡ numberWord (m .number) → done x (ranTo (m .after) l 0) (m .cells) ≡ numbered l o

@@ -18,17 +18,17 @@ use Rattle.primitive.specs.declared.slots.Slot.{Slot}
 use Rattle.primitive.specs.declared.slots.Slot.the-variants.{At, Nothing}
 use Rattle.primitive.specs.declared.values.Value.{Value}
 use Rattle.primitive.specs.Slots.{slotOf}
-use Rattle.primitive.specs.Values.{same}
+use Rattle.primitive.specs.Values.{same, sum}
 use Rattle.primitive.specs.Words.{DEPTH, nodeRows}
 use Rattle.primitive.specs.Queue.{count, entryAt}
 use Rattle.marks.specs.Fields.{flagsOf, setFlags, watching, dirty, pending, has, subs}
 use Rattle.marks.specs.Walks.{propagated}
-use Rattle.reads.specs.Tables.{State, state, Told, told, Got, pendingOf}
+use Rattle.reads.specs.Tables.{State, state, Told, told, Got, currentOf, pendingOf}
 use Rattle.reads.specs.Read.{checked}
 use Rattle.operations.specs.Log.{Ran, ranTo, rowed, rowsIn, numberWord}
 use Rattle.operations.specs.Runs.{mustRun, reran, ran, ranNext, flushedFrom, flushed}
 use Rattle.operations.specs.Batches.{depthOf, mostDepth, started, flushedAt, endedBatch}
-use Rattle.operations.specs.Writes.{stored, announced, written}
+use Rattle.operations.specs.Writes.{stored, announced, written, added}
 
 -- ---- rows
 pub no-row : (l : List ℤ) (e : ℕ) (v : Value) → length l < 2 → l ≡ rowed l e v
@@ -211,3 +211,7 @@ module _ (ws : List ℤ) (s : State) (l : List ℤ) (n : ℕ) (v : Value) {p : V
 
       pub write-batched : (depthOf N ≡ 0 → ⊥) → ranTo heard l 0 ≡ written ws s l n v
       write-batched d = at-more ws heard l (depthOf N) d ∙ write-told
+
+pub add-written : (ws : List ℤ) (s : State) (l : List ℤ) (n : ℕ) (d : Value) {c v : Value} {r : Ran} → c ≡ currentOf (s .values) n → v ≡ sum c d → r ≡ written ws s l n v → r ≡ added ws s l n d
+unfolding added
+add-written ws s l n d p q g = g ∙ ap (written ws s l n) (q ∙ ap (λ (x : Value). sum x d) p)

@@ -1,5 +1,5 @@
 -- `operations::writes::add` meets its contract. Assumes nothing.
-use Rattle.operations.specs.Writes.{added}
+use Rattle.operations.proofs.RunLaws.{add-written}
 use borrow.Author.Needs.{needs}
 use Rattle.operations.proofs.writes.add.Statement.{statement}
 use Rattle.operations.proofs.writes.add.Tie as tie
@@ -26,8 +26,7 @@ same-length-4 : tie.Need-same-length-4
 same-length-4 c = search needs
 
 returns : tie.Need-returns
-unfolding added
-returns c = rw (← c .before .before .before .before .before .before .before .before .before .before .before .before .current .ensures, ← c .before .before .before .before .before .before .before .before .before .before .before .sum .ensures) (c .before .before .before .before .before .before .set .ensures)
+returns c = add-written _ _ _ _ _ (c .before .before .before .before .before .before .before .before .before .before .before .before .current .ensures) (c .before .before .before .before .before .before .before .before .before .before .before .sum .ensures) (c .before .before .before .before .before .before .set .ensures)
 
 pub add-spec : {M : Type 1} → statement M
 add-spec =
