@@ -6,7 +6,7 @@ import re
 import sys
 
 DECLARED = re.compile(r'^(?:(unfoldable|abbrev) )?(?:pub )?([^\s:(){}]+)(?: \{[^}]*\})* :')
-USED = re.compile(r'^use Rattle·(\w+)(?:·specs)?\.specs\.(\w+)(?:\.\{(.*)\}| as (\S+))$')
+USED = re.compile(r'^(?:(?:unfoldable )?pub )?use Rattle·(\w+)(?:·specs)?\.specs\.(\w+)(?:\.\{(.*)\}| as (\S+))$')
 WORD = re.compile(r'[^\s(){}\[\],;|]+')
 
 
@@ -57,7 +57,10 @@ todo = [(c, m, n) for (c, m), x in modules.items() if c == own for n in x.kinds]
 reached = set()
 while todo:
     at = todo.pop()
-    if at in reached or at[:2] not in modules or at[2] not in modules[at[:2]].kinds:
+    if at in reached or at[:2] not in modules:
+        continue
+    if at[2] not in modules[at[:2]].kinds:  # perhaps passed on by a `pub use`
+        todo += [modules[at[:2]].names[n] for n in [at[2]] if n in modules[at[:2]].names]
         continue
     reached.add(at)
     todo += [r for r in (resolved(at[0], at[1], w) for w in modules[at[:2]].words[at[2]]) if r]

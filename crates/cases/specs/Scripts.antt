@@ -8,7 +8,7 @@ use Rattle.primitive.specs.Values.{value}
 use Rattle.primitive.specs.Words.{NODE, LINK}
 use Rattle.meaning.specs.State.{Room}
 use Rattle.meaning.specs.Words.{nodeOf}
-use Rattle.meaning.specs.Commands.{Told}
+use Rattle.meaning.specs.Cases.{Told}
 use Rattle.operations.specs.Log.{rowWords}
 use Rattle.operations.specs.Emptying.{Emptied, emptying}
 use Rattle.engine.specs.Command.{Answered, commandIn}

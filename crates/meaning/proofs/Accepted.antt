@@ -3,7 +3,7 @@ use mathlib.Core.Path.{_≡_, refl, sym, ap, _∙_, subst}
 use mathlib.Core.Logic.{_⊎_, inl, inr}
 use mathlib.Core.Bool.{Bool, true, false, not, _&&_, _||_}
 use mathlib.Core.List.{List, [], _∷_}
-use mathlib.Core.Option.{Option, none, some}
+use mathlib.Core.Option.{Option, none, some, Option·getD}
 use Prim.Native.Nat.{ℕ, zero, suc, _+_, _≤_, _<_}
 use native.Mathlib.Omega.{arith}
 use lib.Dec.{leb, ltb}
@@ -13,16 +13,17 @@ use Rattle.primitive.specs.declared.values.Value.{Value}
 use Rattle.primitive.specs.Values.{value, same}
 use Rattle.formula.specs.Trees.{Tree, constant, size, nesting, names}
 use Rattle.formula.specs.Legal.{mostCells, mostNesting}
-use Rattle.meaning.specs.State.{St, Kind, signal, computed, effect, scope, Room, readable, f17, empty}
+use Rattle.meaning.specs.State.{St, Kind, signal, computed, effect, scope, Room, capacities, readable, on, f17, empty}
 use Rattle.meaning.specs.Setters.{withLog, withDepth, withQueue, setFl, setPend}
 use Rattle.meaning.specs.Links.{isNil}
 use Rattle.meaning.specs.Marks.{isEffect, propagate}
 use Rattle.meaning.specs.Engine.{levelOf, cellsOf, run, flushOn, flush, flushAt, store, endAt}
-use Rattle.meaning.specs.Words.{Command, makeSignal, makeComputed, makeEffect, makeScope, setTo, addTo, readOf, disposeOf, batchStart, batchEnd, commandOf, nodeOf, ownerOf, treeOf, treeOr, formulaOf}
+use Rattle.meaning.specs.Words.{Command, makeSignal, makeComputed, makeEffect, makeScope, setTo, addTo, readOf, disposeOf, batchStart, batchEnd, commandOf, nodeOf, ownerOf, treeOf, formulaOf}
 use Rattle.meaning.specs.Reserve.{reserve, reserveOf}
-use Rattle.meaning.specs.Refusals.{Sight, sightOf, asksOf, aSignal, anOwner, isA, unknown, wrongOwner, wrongNode, isGone, goneNode, allReadable, legalTree, illegal, badFormula, treeIn, over, tooHigh, full, noRoom, wrongDepth, table, refusal, mostLevel, mostDepth}
+use Rattle.meaning.specs.Refusals.{Sight, sightOf, asksOf, aSignal, anOwner, isA, unknown, wrongOwner, wrongNode, isGone, goneNode, allReadable, legalCells, badFormula, treeIn, tooHigh, full, noRoom, wrongDepth, table, refusal, mostLevel, mostDepth}
 use Rattle.meaning.specs.WellFormed.{In, WellFormed}
-use Rattle.meaning.specs.Commands.{perform, performAny, answer, command, afterAll}
+use Rattle.meaning.specs.Commands.{perform, performAny, answer, command}
+use Rattle.meaning.specs.Cases.{afterAll}
 use Rattle.meaning.proofs.Laws.{false≢true, none-some, same-some, branch, or-left, or-right}
 use Rattle.meaning.proofs.Rings.{dispose-ring, settle-ring}
 use Rattle.meaning.proofs.Still.{Given, given, Fixed, Still, drops-still, renews-still}
@@ -44,7 +45,7 @@ and-both true b e = (refl, e)
 and-both false b e = false≢true e
 
 -- ---- the depth, and the queue at depth 0
-flush-depth : (q : List ℕ) (s : St) → flushOn s q .depth ≡ s .depth
+pub flush-depth : (q : List ℕ) (s : St) → flushOn s q .depth ≡ s .depth
 unfolding flushOn
 flush-depth [] s = refl
 flush-depth (e ∷ q) s = flush-depth q (run (withQueue s q) e) ∙ ap (λ (l : Lasting). l .depth) (run-lasts (withQueue s q) e)
@@ -53,7 +54,7 @@ flush-depth (e ∷ q) s = flush-depth q (run (withQueue s q) e) ∙ ap (λ (l : 
 abbrev Calm : St → Type 0
 Calm t = t .depth ≡ 0 → t .queue ≡ []
 
-store-calm : (s : St) (n : ℕ) (v : Value) → Calm s → (store s n v .depth ≡ s .depth) × Calm (store s n v)
+pub store-calm : (s : St) (n : ℕ) (v : Value) → Calm s → (store s n v .depth ≡ s .depth) × Calm (store s n v)
 unfolding store
 store-calm s n v c =
     branch (λ (t : St). (t .depth ≡ s .depth) × Calm t) (same (s .pend n) v) (λ e. (refl, c))
@@ -125,16 +126,16 @@ module _ (s : St) (rows : ℕ) (w : WellFormed s) where
     pub few : size t ≤ mostCells
     pub shallow : nesting t ≤ mostNesting
 
-  legal : (cs : Option (List ℤ)) → illegal v cs ≡ false → Legal (treeIn cs)
+  legal : (o : Option (List ℤ)) → on o (λ cs. not (legalCells v cs)) ≡ false → Legal (treeIn o)
   unfolding size nesting names
   legal none e = record { known = λ m j. absurd j; few = omega arith; shallow = omega arith }
   legal (some cs) e = go (treeOf cs) refl e
     where
-      go : (o : Option Tree) → treeOf cs ≡ o → not (legalTree v o) ≡ false → Legal (treeOr o)
+      go : (o : Option Tree) → treeOf cs ≡ o → not (on o (λ t. allReadable v (names t))) ≡ false → Legal (Option·getD o (constant (pos 0)))
       go none q a = false≢true (sym a)
       go (some t) q a = let x = tree-exact cs t .0 q in record { known = readable-known (names t) (not-false (allReadable v (names t)) a); few = x .few; shallow = x .shallow }
 
-  fits : (k : Kind) (cs : Option (List ℤ)) (o : ℤ) → wrongOwner v o ≡ false → isGone v o ≡ false → illegal v cs ≡ false → over v (some k) (treeIn cs) (ownerOf o) ≡ false → full v (some k) (treeIn cs) (ownerOf o) ≡ false
+  fits : (k : Kind) (cs : Option (List ℤ)) (o : ℤ) → wrongOwner v o ≡ false → isGone v o ≡ false → on cs (λ ws. not (legalCells v ws)) ≡ false → ltb (mostLevel k) (levelOf (s .level) k (treeIn cs) (ownerOf o)) ≡ false → full v (some k) (treeIn cs) (ownerOf o) ≡ false
       → (readable k ≡ true → ownerOf o ≡ none) → ((k ≡ signal) ⊎ (k ≡ scope) → names (treeIn cs) ≡ []) → Fits (withLog s []) k (treeIn cs) (ownerOf o)
   unfolding reserve
   fits k cs o a b c d e un nm =
@@ -217,7 +218,7 @@ module _ (s : St) (rows : ℕ) (w : WellFormed s) where
   perform-well (disposeOf n) h =
       let k = taken anOwner n (h 2) in
       let r = dispose-inside g st (withLog s []) (nodeOf n) i (k .0) (not-true (readable (s .kind (nodeOf n))) (k .1)) in
-      still-ended _ (record { inside = r .0; stuck = r .1 }) (dispose-ring Still drops-still (withLog s []) (nodeOf n))
+      still-ended _ (record { inside = r .inside; stuck = r .stuck }) (dispose-ring Still drops-still (withLog s []) (nodeOf n))
   perform-well batchStart h = record { formed = start-well-formed (withLog s []) (leb-false mostDepth (s .depth) (h 7)) logless; stuck = refl }
   perform-well batchEnd h = end-well (s .depth) refl (eqb-false (s .depth) 0 (h 7))
 
@@ -250,6 +251,6 @@ script-kept rows (c ∷ cs) s w =
     record { formed = b .formed; stuck = b .stuck ∙ a .stuck }
 
 -- no history from empty tables is ever stuck
-pub never-stuck : (r : Room) (rows : ℕ) (cs : List (List ℤ)) → WellFormed (afterAll (empty r) rows cs) × (afterAll (empty r) rows cs .stuck ≡ false)
+pub never-stuck : (r : Room) → capacities r ≡ true → (rows : ℕ) (cs : List (List ℤ)) → WellFormed (afterAll (empty r) rows cs) × (afterAll (empty r) rows cs .stuck ≡ false)
 unfolding empty
-never-stuck r rows cs = let a = script-kept rows cs (empty r) (empty-well-formed r) in (a .formed, a .stuck)
+never-stuck r within rows cs = let a = script-kept rows cs (empty r) (empty-well-formed r within) in (a .formed, a .stuck)

@@ -107,7 +107,7 @@ module _ (s : St) (rows : ℕ) (w : WellFormed s) where
   perform-bound (disposeOf n) h =
       let k = taken s rows w anOwner n (h 2) in
       let r = dispose-inside g st (withLog s []) (nodeOf n) i (k .0) (not-true (readable (s .kind (nodeOf n))) (k .1)) in
-      by-same _ (ap (λ (z : Given). z .kind) (r .0 .same)) (r .2)
+      by-same _ (ap (λ (z : Given). z .kind) (r .inside .same)) (r .reads)
   perform-bound batchStart h = by-same _ refl (λ m lo ke a. record { links = refl; ends = λ l j. refl })
   perform-bound batchEnd h = ends-bound (s .depth)
 

@@ -10,17 +10,19 @@ use lib.Dec.{eqb}
 use lib.ListN.{length}
 use borrow.Author.Tests.{eqb-true, eqb-false}
 use Rattle.primitive.specs.declared.flags.Named.{Named}
-use Rattle.formula.specs.Trees.{Tree, names}
+use Rattle.formula.specs.Trees.{names}
 use Rattle.meaning.specs.State.{St, Kind, signal, computed, effect, scope, readable, deps, f0, f17, up}
 use Rattle.meaning.specs.Setters.{setFl, setGone}
 use Rattle.meaning.specs.Links.{isNil, headOf, remove, each, cut, rewind, purgeW, lastLink, disposeW, unwatchedW, unlinkN, budget, purge, dispose}
 use Rattle.meaning.specs.Reserve.{reserveOf}
+use Rattle.meaning.specs.Owners.{Below}
 use Rattle.meaning.specs.WellFormed.{In, Once, Lists, readLinks, ComputedFlags, never, clean, stale, maybe, dirty, EffectFlags, watching, pending}
 use Rattle.meaning.proofs.Laws.{clash, false≢true, either, none-some, branch, up-same, up-other, up-by, in-right}
 use Rattle.meaning.proofs.Members.{remove-in, in-remove, remove-absent, remove-head, remove-once, remove-append, none-nil, nil-none, isNil-true, isNil-false, append-is-nil, once-right, once-apart, most-below, total-least, reads-remove}
 use Rattle.meaning.proofs.Still.{Given}
 use Rattle.meaning.proofs.Binding.{SameLists, readsOf, SameReads, reads-then, reads-lists}
-use Rattle.meaning.proofs.Inside.{Set, nobody, also, only, Static, Goes, AtRest, Rests, Slots, Inside, widen, let-out, at-same, own-still, read-moves, moves-read, Under, under-same, under-then, goes-under, never-back, owner-owns}
+use Rattle.meaning.proofs.Steps.{falls-by}
+use Rattle.meaning.proofs.Inside.{Set, nobody, also, only, Static, Goes, AtRest, Rests, Slots, reserve-least, Inside, widen, let-out, at-same, own-still, read-moves, moves-read, Under, under-same, under-then, goes-under, never-back, owner-owns}
 
 -- ---- a link is cut
 module _ (g : Given) (X : Set) (s : St) (l : ℕ) (i : Inside g X s) (lv : s .live l ≡ true) where
@@ -44,6 +46,10 @@ module _ (g : Given) (X : Set) (s : St) (l : ℕ) (i : Inside g X s) (lv : s .li
   cut-subs m =
       up-by (s .subs) (s .dep l) (remove l (s .subs (s .dep l))) (λ (x : List ℕ). x ≡ remove l (s .subs m)) m (λ q. ap (λ (z : ℕ). remove l (s .subs z)) (sym q))
       (λ q. sym (remove-absent l (s .subs m) (λ j. q (sym (o .subs-live l m j .1)))))
+
+  -- it was the only one
+  pub nobody-left : s .subs (s .dep l) ≡ l ∷ [] → cut s l .subs (s .dep l) ≡ []
+  nobody-left one = cut-subs (s .dep l) ∙ ap (remove l) one ∙ remove-head l [] (λ j. j)
 
   still-live : (k : ℕ) → up (s .live) l false k ≡ true → (k ≡ l → ⊥) × (s .live k ≡ true)
   still-live k = up-by (s .live) l false (λ (b : Bool). b ≡ true → (k ≡ l → ⊥) × (s .live k ≡ true)) k (λ q e. false≢true e) (λ q e. (q, e))
@@ -132,15 +138,7 @@ module _ (g : Given) (X : Set) (s : St) (n : ℕ) (i : Inside g X s) (xn : X n) 
 
   less-reserved : (m : ℕ) → reserveOf (g .kind m) (up (s .gone) n true m) (g .form m) (g .owner m) ≤ reserveOf (g .kind m) (s .gone m) (g .form m) (g .owner m)
   less-reserved m = up-by (s .gone) n true (λ (b : Bool). reserveOf (g .kind m) b (g .form m) (g .owner m) ≤ reserveOf (g .kind m) (s .gone m) (g .form m) (g .owner m)) m
-      (λ q. least (g .kind m) (s .gone m) (g .form m) (g .owner m)) (λ q. omega arith)
-    where
-      least : (k : Kind) (b : Bool) (t : Tree) (p : Option ℕ) → reserveOf k true t p ≤ reserveOf k b t p
-      least signal b t p = omega arith
-      least computed b t p = omega arith
-      least effect true t p = omega arith
-      least effect false t p = omega arith
-      least scope true t p = omega arith
-      least scope false t p = omega arith
+      (λ q. reserve-least (g .kind m) (s .gone m) (g .form m) (g .owner m)) (λ q. omega arith)
 
   pub gone-inside : readable (g .kind n) ≡ false → Inside g X (setGone s n true)
   gone-inside r = record {
@@ -238,9 +236,9 @@ dropped-reset N u n s f b nn none-here same t e₁ e₂ e₃ e₄ e₅ e₆ e₇
     away : (m : ℕ) → (N m → ⊥) → m ≡ n → ⊥
     away m a q = a (subst N (sym q) nn)
 
--- ---- whose links the ring leaves alone: all but those of E, and of nodes that fall, which are gone or have MUTABLE
+-- ---- whose links the ring leaves alone: all but those of E, and of nodes that fall, which are gone or have flags 17
 abbrev pub Fallen : St → ℕ → Type 0
-Fallen t m = (t .gone m ≡ true) ⊎ (t .fl m .mutable ≡ true)
+Fallen t m = (t .gone m ≡ true) ⊎ (t .fl m ≡ f17)
 
 pub record Spares (E : Set) (s t : St) : Type 0 where
   pub safe : (m : ℕ) → (E m → ⊥) → SameLists s t m ⊎ Fallen t m
@@ -275,7 +273,7 @@ spares-reset s t n same f = record {
   where
     keep : (m : ℕ) → SameLists s t m × (t .fl m ≡ s .fl m) × (t .gone m ≡ s .gone m) → Fallen s m → Fallen t m
     keep m p (inl a) = inl (p .2 ∙ a)
-    keep m p (inr a) = inr (ap (λ (z : Named). z .mutable) (p .1) ∙ a)
+    keep m p (inr a) = inr (p .1 ∙ a)
 
 abbrev headOr : List ℕ → ℕ
 headOr [] = 0
@@ -463,7 +461,7 @@ module _ (g : Given) (st : Static g) where
             } in
             let first : Dropped (Under g d) v s a = dropped-reset (Under g d) v d s f17 (s .gone) (under-same g st d) e (λ m q. refl) a refl refl refl refl refl refl refl refl refl in
             let then : Dropped (Under g d) v a t = dropped-wider (Strict d) (Under g d) d v a t (λ m z. z .0) (λ z. absurd (z (under-same g st d))) dr in
-            let down : Fallen a d = inr (ap (λ (z : Named). z .mutable) (up-same (s .fl) d f17)) in
+            let down : Fallen a d = inr (up-same (s .fl) d f17) in
             let begins : Spares nobody s a = spares-reset s a d (λ m q. ((up-other (s .done) d [] m q, up-other (s .rest) d (s .done d ++ s .rest d) m q), up-other (s .fl) d f17 m q, refl)) down in
             (let-out g X t d (p .inside) rt, dropped-then (Under g d) v s a t first then, spares-over s a t d begins down (p .spares))
 
@@ -560,7 +558,7 @@ module _ (g : Given) (st : Static g) where
           rest = keeps .1 ∙ cut-done .1;
         }
 
-  unlink-inside : (k : ℕ) → Unlinks k (unlinkN k)
+  pub unlink-inside : (k : ℕ) → Unlinks k (unlinkN k)
   unfolding unlinkN
   unlink-inside zero X s l i lv xu apart b = let a = free-most X s l i lv xu apart in absurd (omega arith)
   unlink-inside (suc k) X s l i lv xu apart b =
@@ -576,6 +574,37 @@ module _ (g : Given) (st : Static g) where
       (λ e. unlinked X s l i lv xu apart c (let-out g X c d ic (left X s l i lv xu apart (isNil-false (c .subs d) e)), dropped-same (Under g d) d c, spares-same nobody c)))
       (λ v. clash lv v)
 
+  -- ---- a computed d that loses its last subscriber link l: with dependencies it becomes 17 and drops them
+  module _ (k : ℕ) (X : Set) (s : St) (l : ℕ) (i : Inside g X s) (lv : s .live l ≡ true) (xu : X (s .sub l)) (apart : (m : ℕ) → Under g (s .dep l) m → X m → ⊥) (b : g .room .slots ≤ suc k + length (s .free)) where
+    pub unwatched-drops : s .subs (s .dep l) ≡ l ∷ [] → s .fl (s .dep l) .mutable ≡ true → (s .done (s .dep l) ≡ [] → ⊥)
+        → (unlinkN (suc k) s l .fl (s .dep l) ≡ f17) × (unlinkN (suc k) s l .done (s .dep l) ≡ []) × (unlinkN (suc k) s l .rest (s .dep l) ≡ [])
+    unfolding cut
+    unwatched-drops one mu ne =
+        let d = s .dep l in
+        let c = cut s l in
+        let a = setFl (rewind c d) d f17 in
+        let fc = cut-free X s l i lv xu apart in
+        let ia : Inside g (also X d) a = flags-inside g (also X d) (rewind c d) d (rewind-inside g (also X d) c d (cut-inside g X s l i lv xu) (inr refl)) (inr refl) f17 (λ q. refl) in
+        let p = purge-all k (unlinkN k) (unlink-inside k) (also X d) d (inr refl) away (a .rest d) a ia refl (room fc) in
+        let t = purgeW (unlinkN k) a d in
+        let outside : Strict d d → ⊥ = λ z. z .1 refl in
+        let same : unlinkN (suc k) s l ≡ t = falls-by k s l lv (nobody-left g X s l i lv one) (moves mu) (λ q. ne (sym left ∙ q)) in
+        subst (λ (z : St). (z .fl d ≡ f17) × (z .done d ≡ []) × (z .rest d ≡ [])) (sym same)
+        (p .dropped .flags d outside .0 ∙ up-same (c .fl) d f17, p .done ∙ up-same (c .done) d [], p .rest)
+      where
+        away : (m : ℕ) → Strict (s .dep l) m → also X (s .dep l) m → ⊥
+        away m p (inl q) = apart m (p .0) q
+        away m p (inr q) = p .1 q
+
+        left : cut s l .done (s .dep l) ≡ s .done (s .dep l)
+        left = up-other (s .done) (s .sub l) (remove l (s .done (s .sub l))) (s .dep l) (not-own X s l i lv xu apart)
+
+        moves : s .fl (s .dep l) .mutable ≡ true → cut s l .fl (s .dep l) .mutable ≡ true
+        moves e = e
+
+        room : length (cut s l .free) ≡ suc (length (s .free)) → g .room .slots ≤ k + length (setFl (rewind (cut s l) (s .dep l)) (s .dep l) f17 .free)
+        room e = omega arith
+
   -- ---- purge
   pub purge-inside : (X : Set) (s : St) (u : ℕ) → Inside g X s → X u → ((m : ℕ) → Strict u m → X m → ⊥) → Purged X s u (purge s u)
   purge-inside X s u i xu apart =
@@ -585,7 +614,7 @@ module _ (g : Given) (st : Static g) where
   -- ---- an effect that is still live keeps its read links
   not-fallen : (X : Set) (t : St) (e : ℕ) {C : Type 0} → Inside g X t → e < g .size → g .kind e ≡ effect → (X e → ⊥) → t .gone e ≡ false → Fallen t e → C
   not-fallen X t e i h k x a (inl b) = clash b a
-  not-fallen X t e i h k x a (inr m) = clash m (own-still g (t .queue) (t .dep) (t .sub) e _ _ _ _ _ (i .rests e h x) (ap readable k))
+  not-fallen X t e i h k x a (inr m) = clash (ap (λ (z : Named). z .mutable) m) (own-still g (t .queue) (t .dep) (t .sub) e _ _ _ _ _ (i .rests e h x) (ap readable k))
 
   pub purge-reads : (X : Set) (s t : St) (u e : ℕ) → Purged X s u t → e < g .size → g .kind e ≡ effect → (X e → ⊥) → (e ≡ u → ⊥) → t .gone e ≡ false → SameReads (g .kind) s t e
   purge-reads X s t u e p h k x ne a = go (p .spares .safe e ne)
@@ -653,6 +682,17 @@ module _ (g : Given) (st : Static g) where
     -- effects that are still live keep their read links
     abbrev Kept : St → Type 0
     Kept z = (m : ℕ) → m < g .size → g .kind m ≡ effect → z .gone m ≡ false → SameReads (g .kind) s z m
+
+    -- what can be read keeps its flags or has lost its subscribers, and keeps its links or falls
+    abbrev Left : St → Type 0
+    Left z = (m : ℕ) → readable (g .kind m) ≡ true → ((z .fl m ≡ s .fl m) ⊎ (z .subs m ≡ [])) × (SameLists s z m ⊎ Fallen z m)
+
+    left-emptied : Left emptied
+    left-emptied m rm = (go (purged .dropped .fate m), spared .safe m (λ z. z))
+      where
+        go : (emptied .fl m ≡ up (s .fl) x f0 m) ⊎ (emptied .subs m ≡ []) → (emptied .fl m ≡ s .fl m) ⊎ (emptied .subs m ≡ [])
+        go (inl e) = inl (e ∙ up-other (s .fl) x f0 m (λ q. clash rm (ap (λ (z : ℕ). readable (g .kind z)) q ∙ r)))
+        go (inr e) = inr e
 
     -- the owner's link, alone in its list
     module _ (l : ℕ) (ls : List ℕ) (e : emptied .subs x ≡ l ∷ ls) where
@@ -760,32 +800,78 @@ module _ (g : Given) (st : Static g) where
           go (inl p) (inr f) = not-fallen nobody z m i′ h k (λ w. w) a f
           go (inr f) q = not-fallen nobody z m i′ h k (λ w. w) a (sp .fallen m (fallen-cut m f))
 
-      gone-too : Inside g nobody (unlinkN (suc K) t l) × (unlinkN (suc K) t l .stuck ≡ t .stuck) × Kept (unlinkN (suc K) t l)
+      left-after : (z : St) (N : Set) (u : ℕ) → Dropped N u (cut t l) z → Spares nobody (cut t l) z → Left z
+      unfolding cut
+      left-after z N u dr sp m rm = (fate (left-emptied m rm .0) (dr .fate m), lists (left-emptied m rm .1) (sp .safe m (λ w. w)))
+        where
+          m-other : m ≡ p → ⊥
+          m-other q = clash rm (ap (λ (w : ℕ). readable (g .kind w)) q ∙ p-owns)
+
+          fate : (t .fl m ≡ s .fl m) ⊎ (t .subs m ≡ []) → (z .fl m ≡ t .fl m) ⊎ (z .subs m ≡ []) → (z .fl m ≡ s .fl m) ⊎ (z .subs m ≡ [])
+          fate a (inr e) = inr e
+          fate (inl a) (inl e) = inl (e ∙ a)
+          fate (inr a) (inl e) = inr (none-nil (z .subs m) (λ k j. nil-none (t .subs m) k a (remove-in k l (t .subs m) (subst (In k) (cut-subs g X t l (purged .inside) (linked .0) m) (dr .fewer k m j)) .0)))
+
+          lists : SameLists s t m ⊎ Fallen t m → SameLists (cut t l) z m ⊎ Fallen z m → SameLists s z m ⊎ Fallen z m
+          lists (inl a) (inl b) = inl (b .0 ∙ up-other (t .done) p (remove l (t .done p)) m m-other ∙ a .0, b .1 ∙ up-other (t .rest) p (remove l (t .rest p)) m m-other ∙ a .1)
+          lists (inl a) (inr f) = inr f
+          lists (inr f) b = inr (sp .fallen m f)
+
+      gone-too : Inside g nobody (unlinkN (suc K) t l) × (unlinkN (suc K) t l .stuck ≡ t .stuck) × Kept (unlinkN (suc K) t l) × ((m : ℕ) → (Under g x m → ⊥) → unlinkN (suc K) t l .gone m ≡ t .gone m) × Left (unlinkN (suc K) t l)
       unfolding unlinkN unwatchedW cut
       gone-too =
           let d = t .dep l in
           let c = cut t l in
-          let P : St → Type 0 = λ z. Inside g nobody z × (z .stuck ≡ t .stuck) × Kept z in
+          let P : St → Type 0 = λ z. Inside g nobody z × (z .stuck ≡ t .stuck) × Kept z × ((m : ℕ) → (Under g x m → ⊥) → z .gone m ≡ t .gone m) × Left z in
           branch P (t .live l)
           (λ a. branch P (isNil (c .subs d))
           (λ q. subst (λ (y : ℕ). P (unwatchedW (unlinkN K) c y)) (sym (linked .1))
           (branch P (c .fl x .mutable) (λ m. clash m (ap (λ (z : Named). z .mutable) flag))
-          (λ m. let w = dispose-bare K (unlinkN K) (unlink-inside K) nobody c x x i-left h r alone (λ n y z. z) (in-time c) in (w .0, w .1 .stuck, after _ (w .0) (w .2) (w .1 .dep)))))
+          (λ m. let w = dispose-bare K (unlinkN K) (unlink-inside K) nobody c x x i-left h r alone (λ n y z. z) (in-time c) in (w .0, w .1 .stuck, after _ (w .0) (w .2) (w .1 .dep), λ m f. w .1 .flags m f .1, left-after _ _ _ (w .1) (w .2)))))
           (λ q. absurd (isNil-false (c .subs d) q (subst (λ (y : ℕ). c .subs y ≡ []) (sym (linked .1)) alone))))
           (λ a. clash (linked .0) a)
 
-    pub dispose-inside : Inside g nobody (dispose s x) × (dispose s x .stuck ≡ s .stuck) × ((m : ℕ) → m < g .size → g .kind m ≡ effect → dispose s x .gone m ≡ false → SameReads (g .kind) s (dispose s x) m)
+    -- well-formed and not stuck; effects that are still live keep their read links; nothing is gone but x and what it owns; what can be read keeps flags and lists, or lost its last subscriber
+    pub record Disposed (t : St) : Type 0 where
+      pub inside : Inside g nobody t
+      pub stuck : t .stuck ≡ s .stuck
+      pub reads : Kept t
+      pub others : (m : ℕ) → m < g .size → (Below (g .owner) x m → ⊥) → t .gone m ≡ s .gone m
+      pub left : Left t
+
+    -- what is not owned by x keeps its mark
+    spared-marks : (t : St) → Inside g nobody t → ((m : ℕ) → (Under g x m → ⊥) → t .gone m ≡ s .gone m) → (m : ℕ) → m < g .size → (Below (g .owner) x m → ⊥) → t .gone m ≡ s .gone m
+    spared-marks t j same m lo f = either (readable (g .kind m)) (λ e. j .gone-kind m lo e ∙ sym (i .gone-kind m lo e)) (λ e. same m (λ u. f (u .owned e)))
+
+    marks-emptied : (m : ℕ) → (Under g x m → ⊥) → emptied .gone m ≡ s .gone m
+    marks-emptied m f = purged .dropped .flags m (λ z. f (z .0)) .1 ∙ up-other (s .gone) x true m (λ q. f (subst (Under g x) (sym q) (under-same g st x)))
+
+    pub dispose-inside : Disposed (dispose s x)
     unfolding disposeW lastLink
     dispose-inside = go (emptied .subs x) refl
       where
-        go : (ls : List ℕ) → emptied .subs x ≡ ls → Inside g nobody (lastLink (unlinkN (suc K)) emptied (headOf ls)) × (lastLink (unlinkN (suc K)) emptied (headOf ls) .stuck ≡ s .stuck) × Kept (lastLink (unlinkN (suc K)) emptied (headOf ls))
+        go : (ls : List ℕ) → emptied .subs x ≡ ls → Disposed (lastLink (unlinkN (suc K)) emptied (headOf ls))
         go [] e =
             let it : Inside g nobody emptied =
             let-out g nobody emptied x (purged .inside)
             (rests-gone g (emptied .queue) (emptied .dep) (emptied .sub) x (emptied .fl x) (emptied .gone x) (emptied .done x) (emptied .rest x) (emptied .subs x) r flag gone-now no-deps (purged .rest) e) in
-            (it, purged .dropped .stuck, λ m h k a. first m (not-fallen nobody emptied m it h k (λ w. w) a) (spared .safe m (λ w. w)))
+            record {
+              inside = it;
+              stuck = purged .dropped .stuck;
+              reads = λ m h k a. first m (not-fallen nobody emptied m it h k (λ w. w) a) (spared .safe m (λ w. w));
+              others = spared-marks emptied it marks-emptied;
+              left = left-emptied;
+            }
           where
             first : (m : ℕ) → (Fallen emptied m → SameReads (g .kind) s emptied m) → SameLists s emptied m ⊎ Fallen emptied m → SameReads (g .kind) s emptied m
             first m f (inl p) = reads-lists (g .kind) s emptied m p (λ n j. ap (λ (w : ℕ → ℕ). w n) dep-same)
             first m f (inr z) = f z
-        go (l ∷ ls) e = let w = gone-too l ls e in (w .0, w .1 ∙ purged .dropped .stuck, w .2)
+        go (l ∷ ls) e =
+            let w = gone-too l ls e in
+            record {
+              inside = w .0;
+              stuck = w .1 ∙ purged .dropped .stuck;
+              reads = w .2;
+              others = spared-marks (unlinkN (suc K) emptied l) (w .0) (λ m f. w .3 m f ∙ marks-emptied m f);
+              left = w .4;
+            }

@@ -5,10 +5,10 @@ use mathlib.Core.Bool.{true, false}
 use mathlib.Core.List.{List, [], _∷_}
 use Prim.Native.Nat.{ℕ, zero, suc, _≤_, _<_}
 use native.Mathlib.Omega.{arith}
-use Rattle.meaning.specs.State.{St, Room, below, empty}
+use Rattle.meaning.specs.State.{St, Room, capacities, below, empty}
 use Rattle.meaning.specs.Reserve.{total, reserve}
 use Rattle.meaning.specs.WellFormed.{In, Once, WellFormed}
-use Rattle.meaning.specs.Commands.{capacities, emptying}
+use Rattle.meaning.specs.Commands.{emptying}
 use Rattle.meaning.proofs.Laws.{false≢true, branch}
 
 -- ---- the slots from 0 on
@@ -62,9 +62,9 @@ module _ (r : Room) where
       go : (l < r .slots) ⊎ In l [] → l < r .slots
       go (inl a) = a
 
-  pub empty-well-formed : WellFormed (empty r)
+  pub empty-well-formed : capacities r ≡ true → WellFormed (empty r)
   unfolding empty reserve total
-  empty-well-formed = record {
+  empty-well-formed within = record {
     lists = record {
       free-not-live = λ l i. (refl, free-in l i);
       free-or-live = λ l h e. in-below l (r .slots) [] (inl h);
@@ -101,6 +101,7 @@ module _ (r : Room) where
       nesting-low = λ n h. absurd (omega arith);
       levels = λ n h. absurd (omega arith);
       level-low = λ n h. absurd (omega arith);
+      room-within = within;
       nodes-fit = omega arith;
       cells-fit = omega arith;
       reserve-fits = omega arith;
@@ -127,4 +128,4 @@ pub emptying-answers : (r : Room) (s : St)
 unfolding emptying
 emptying-answers r s =
     branch (λ (x : ℕ × St). ((capacities r ≡ true) × (x .0 ≡ 0) × WellFormed (x .1)) ⊎ ((capacities r ≡ false) × (x .0 ≡ 1) × (x .1 ≡ s))) (capacities r)
-    (λ e. inl (e, refl, empty-well-formed r)) (λ e. inr (e, refl, refl))
+    (λ e. inl (e, refl, empty-well-formed r e)) (λ e. inr (e, refl, refl))

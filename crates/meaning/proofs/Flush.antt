@@ -5,15 +5,14 @@ use mathlib.Core.List.{List, [], _∷_, _++_, append-assoc, append-nil}
 use Prim.Native.Nat.{ℕ, _≤_}
 use native.Mathlib.Omega.{arith}
 use lib.ListN.{length}
-use Rattle.primitive.specs.declared.flags.Named.{Named}
 use Rattle.primitive.specs.declared.values.Value.{Value}
-use Rattle.meaning.specs.State.{St, Row, f0, f2, f6, raised}
+use Rattle.meaning.specs.State.{St, Row, f2, f6, raised}
 use Rattle.meaning.specs.Setters.{withCycle, withQueue, setFl}
 use Rattle.meaning.specs.Links.{rewind, purge}
 use Rattle.meaning.specs.Reads.{check, evaluate}
 use Rattle.meaning.specs.Engine.{logged, rerun, run, flushOn, flush}
 use Rattle.meaning.specs.WellFormed.{In, Once}
-use Rattle.meaning.proofs.Laws.{branch}
+use Rattle.meaning.proofs.Steps.{run-by}
 use Rattle.meaning.proofs.Rings.{Runs, weaker-renews, purge-ring, check-ring, evaluate-ring, run-ring}
 use Rattle.meaning.proofs.Still.{Given, given, Fixed, Still, drops-still, renews-still}
 
@@ -76,14 +75,10 @@ after-check s t x e p (inl q) = inl (q ∙ p)
 after-check s t x e p (inr q) = inr (q .0, q .1, q .2 ∙ ap (λ (l : List Row). l ++ q .0 ∷ []) p)
 
 pub run-logs : (s : St) (e : ℕ) → Logs s e (run s e)
-unfolding run
 run-logs s e =
     let c = check s e in
     let p : c .st .log ≡ s .log = log-still s (c .st) (check-ring Still renews-still s e) in
-    branch (Logs s e) (s .fl e .dirty) (λ a. rerun-logs s e)
-    (λ a. branch (Logs s e) (s .fl e .pending)
-    (λ b. branch (Logs s e) (c .yes) (λ g. after-check s (c .st) (rerun (c .st) e) e p (rerun-logs (c .st) e)) (λ g. inl p))
-    (λ b. inl refl))
+    run-by (Logs s e) s e (λ a. rerun-logs s e) (λ b g. after-check s (c .st) (rerun (c .st) e) e p (rerun-logs (c .st) e)) (λ b g. inl p) (λ b. inl refl)
 
 -- the rows are of these effects, in this order, none twice where the list has none twice
 pub data Ran : List Row → List ℕ → Type 0 where
@@ -130,8 +125,3 @@ ran-once (ran {r = x} {e = e} {q = q} p r) o = (λ i. o .0 (subst (λ (y : ℕ).
 
 pub flush-runs-once : (s : St) → Once (s .queue) → (rs : List Row) × (flush s .log ≡ s .log ++ rs) × Once (whos rs) × (length rs ≤ length (s .queue))
 flush-runs-once s o = let f = flush-runs (s .queue) s in (f .0, f .1, ran-once (f .2) o, ran-most (f .2))
-
--- an effect with no flag, as a gone one, does not run: its flags become 2
-pub no-flag-no-run : (s : St) (e : ℕ) → s .fl e ≡ f0 → run s e ≡ setFl s e f2
-unfolding run
-no-flag-no-run s e h = rw (ap (λ (f : Named). f .dirty) h, run, ap (λ (f : Named). f .pending) h)

@@ -18,7 +18,7 @@ use Rattle.formula.specs.Cells.{cellOf, codes, readOf, bareOf}
 use Rattle.formula.specs.Trees.{Tree, constant, read, two, choose, codeOf, written, size, nesting}
 use Rattle.formula.specs.Legal.{mostCells, mostNesting}
 use Rattle.formula.proofs.Written.{WrittenAs, cell-written, length-written, regroup}
-use Rattle.meaning.specs.Words.{Part, after, grown, parse, alone, treeOf}
+use Rattle.meaning.specs.Words.{word, noWord, Part, after, grown, parse, treeOf}
 use Rattle.meaning.proofs.Laws.{none-some, same-some}
 
 -- ---- what is written is found
@@ -31,7 +31,7 @@ cell-two Maximum = refl
 cell-two Less = refl
 
 pub parse-written : (t : Tree) (k : ℕ) (rest : List ℤ) → nesting t ≤ k → parse k (written t ++ rest) ≡ some (t, rest)
-unfolding parse grown after cellOf codes readOf bareOf written nesting
+unfolding parse word grown after cellOf codes readOf bareOf written nesting
 parse-written (constant c) zero rest h = absurd (omega arith)
 parse-written (constant c) (suc k) rest h = refl
 parse-written (read n) zero rest h = absurd (omega arith)
@@ -105,7 +105,7 @@ grown-spells k ih c o Choose w ws p e =
 grown-spells k ih c o Bad w ws p e = none-some e
 
 pub parse-spells : (k : ℕ) (ws : List ℤ) (p : Tree × List ℤ) → parse k ws ≡ some p → Spells k ws p
-unfolding parse
+unfolding parse word
 parse-spells zero ws p e = none-some e
 parse-spells (suc k) [] p e = none-some e
 parse-spells (suc k) (c ∷ []) p e = none-some e
@@ -118,17 +118,17 @@ pub record WrittenOut (ws : List ℤ) (t : Tree) : Type 0 where
   pub few : size t ≤ mostCells
   pub shallow : nesting t ≤ mostNesting
 
-alone-some : (r : Part) (t : Tree) → alone r ≡ some t → r ≡ some (t, [])
-unfolding alone
+alone-some : (r : Part) (t : Tree) → after r noWord ≡ some t → r ≡ some (t, [])
+unfolding after noWord
 alone-some none t e = none-some e
 alone-some (some (u, [])) t e = ap (λ (x : Tree). some (x, [])) (same-some e)
 alone-some (some (u, w ∷ ws)) t e = none-some e
 
 pub tree-exact : (ws : List ℤ) (t : Tree) → (treeOf ws ≡ some t) ↔ WrittenOut ws t
-unfolding treeOf alone
+unfolding treeOf after noWord
 tree-exact ws t = (go (leb (length ws / 2) mostCells) refl, back)
   where
-    go : (b : Bool) → leb (length ws / 2) mostCells ≡ b → elim b [ true ↦ alone (parse mostNesting ws) | false ↦ none ] ≡ some t → WrittenOut ws t
+    go : (b : Bool) → leb (length ws / 2) mostCells ≡ b → elim b [ true ↦ after (parse mostNesting ws) noWord | false ↦ none ] ≡ some t → WrittenOut ws t
     go true l e =
         let p = parse-spells mostNesting ws (t, []) (alone-some (parse mostNesting ws) t e) in
         let q : ws ≡ written t = p .0 ∙ append-nil (written t) in

@@ -9,7 +9,7 @@ use lib.ListN.{length}
 use Rattle.primitive.specs.declared.flags.Named.{Named}
 use Rattle.primitive.specs.declared.values.Value.{Value}
 use Rattle.formula.specs.Trees.{names}
-use Rattle.meaning.specs.State.{St, Kind, signal, computed, effect, scope, Row, readable, deps, f1}
+use Rattle.meaning.specs.State.{St, Kind, signal, computed, effect, scope, Row, readable, rank, deps, f1}
 use Rattle.meaning.specs.Setters.{withCycle, withSto, withPend, withDepth, withLog, withStuck}
 use Rattle.meaning.specs.Reserve.{reserveOf}
 use Rattle.meaning.specs.WellFormed.{In, readLinks, clean}
@@ -35,22 +35,22 @@ others g X s i c f p d l b = record {
   rests = i .rests;
 }
 
--- ---- computeds below b
+-- ---- computeds of a rank below b
 abbrev pub Low : Given → ℕ → Set
-Low g b m = (g .kind m ≡ computed) × (m < b)
+Low g b m = (g .kind m ≡ computed) × (rank m < b)
 
--- DIRTY came to u by a link from a dependency below c that was not clean
+-- DIRTY came to u by a link from a dependency of a rank below c that was not clean
 pub record Soiled (g : Given) (c : ℕ) (s : St) (u : ℕ) : Type 0 where
   pub link : ℕ
   pub live : s .live link ≡ true
   pub to : s .sub link ≡ u
   pub reads : readable (g .kind (s .dep link)) ≡ true
   pub unclean : s .fl (s .dep link) ≡ f1 → ⊥
-  pub low : s .dep link < c
+  pub low : rank (s .dep link) < c
 
 pub record Frame (g : Given) (N : Set) (c : ℕ) (s t : St) : Type 0 where
   pub lists : (m : ℕ) → (N m → ⊥) → (t .done m ≡ s .done m) × (t .rest m ≡ s .rest m)
-  pub subs : (m : ℕ) → (readable (g .kind m) ≡ true → c ≤ m) → t .subs m ≡ s .subs m
+  pub subs : (m : ℕ) → (readable (g .kind m) ≡ true → c ≤ rank m) → t .subs m ≡ s .subs m
   pub gone : (m : ℕ) → readable (g .kind m) ≡ false → t .gone m ≡ s .gone m
   pub links : (l : ℕ) → s .live l ≡ true → (N (s .sub l) → ⊥) → (t .live l ≡ true) × (t .dep l ≡ s .dep l) × (t .sub l ≡ s .sub l)
   pub held : (l : ℕ) → s .live l ≡ true → (N (s .sub l) → ⊥) → s .fl (s .dep l) ≡ f1 → t .fl (s .dep l) ≡ f1
@@ -184,7 +184,7 @@ module _ (g : Given) (st : Static g) where
   signal-lists X s i n e = append-is-nil (s .done n) (s .rest n) (none-nil (deps s n) (λ l j. let x = i .lists .deps-live l n j in i .goes l (x .0) .of-signal (ap (g .kind) (x .1) ∙ e)))
 
   -- ---- the purge of a computed
-  pub purge-frame : (X : Set) (s t : St) (n : ℕ) → Inside g X s → n < g .size → g .kind n ≡ computed → Purged g st X s n t → Frame g (Low g (suc n)) n s t
+  pub purge-frame : (X : Set) (s t : St) (n : ℕ) → Inside g X s → n < g .size → g .kind n ≡ computed → Purged g st X s n t → Frame g (Low g (suc (rank n))) (rank n) s t
   purge-frame X s t n i h k p =
       let d = p .dropped in
       record {
@@ -201,10 +201,10 @@ module _ (g : Given) (st : Static g) where
       rn : readable (g .kind n) ≡ true
       rn = ap readable k
 
-      strict-low : (m : ℕ) → Under g n m × (m ≡ n → ⊥) → (readable (g .kind m) ≡ true → n ≤ m) → ⊥
+      strict-low : (m : ℕ) → Under g n m × (m ≡ n → ⊥) → (readable (g .kind m) ≡ true → rank n ≤ rank m) → ⊥
       strict-low m z a = either (readable (g .kind m)) (λ r. let x = z .0 .low r rn in let y = a r in let w = z .1 in omega (arith, w)) (λ r. clash rn (z .0 .high r .0))
 
-      not-low : (m : ℕ) → (Low g (suc n) m → ⊥) → (g .kind m ≡ signal → ⊥) → Under g n m × (m ≡ n → ⊥) → ⊥
+      not-low : (m : ℕ) → (Low g (suc (rank n)) m → ⊥) → (g .kind m ≡ signal → ⊥) → Under g n m × (m ≡ n → ⊥) → ⊥
       not-low m a q z = go (g .kind m) refl
         where
           go : (x : Kind) → g .kind m ≡ x → ⊥
@@ -213,10 +213,10 @@ module _ (g : Given) (st : Static g) where
           go effect e = clash rn (z .0 .high (ap readable e) .0)
           go scope e = clash rn (z .0 .high (ap readable e) .0)
 
-      other : (m : ℕ) → (Low g (suc n) m → ⊥) → m ≡ n → ⊥
+      other : (m : ℕ) → (Low g (suc (rank n)) m → ⊥) → m ≡ n → ⊥
       other m a q = a (ap (g .kind) q ∙ k, omega arith)
 
-      by-kind : (m : ℕ) → (Low g (suc n) m → ⊥) → (t .done m ≡ s .done m) × (t .rest m ≡ s .rest m)
+      by-kind : (m : ℕ) → (Low g (suc (rank n)) m → ⊥) → (t .done m ≡ s .done m) × (t .rest m ≡ s .rest m)
       by-kind m a = go (g .kind m) refl
         where
           far : (g .kind m ≡ signal → ⊥) → (t .done m ≡ s .done m) × (t .rest m ≡ s .rest m)
@@ -228,13 +228,13 @@ module _ (g : Given) (st : Static g) where
           go effect e = far (λ q. clash (ap readable q) (ap readable e))
           go scope e = far (λ q. clash (ap readable q) (ap readable e))
 
-      alive : (l : ℕ) → s .live l ≡ true → (Low g (suc n) (s .sub l) → ⊥) → t .live l ≡ true
+      alive : (l : ℕ) → s .live l ≡ true → (Low g (suc (rank n)) (s .sub l) → ⊥) → t .live l ≡ true
       alive l lv a =
           let x = by-kind (s .sub l) a in
           let y : deps t (s .sub l) ≡ deps s (s .sub l) = ap₂ (λ (u v : List ℕ). u ++ v) (x .0) (x .1) in
           p .inside .lists .deps-live l (s .sub l) (subst (In l) (sym y) (i .lists .live-in-deps l lv)) .0
 
-      keeps : (l : ℕ) → s .live l ≡ true → (Low g (suc n) (s .sub l) → ⊥) → s .fl (s .dep l) ≡ f1 → (t .fl (s .dep l) ≡ s .fl (s .dep l)) ⊎ (t .subs (s .dep l) ≡ []) → t .fl (s .dep l) ≡ f1
+      keeps : (l : ℕ) → s .live l ≡ true → (Low g (suc (rank n)) (s .sub l) → ⊥) → s .fl (s .dep l) ≡ f1 → (t .fl (s .dep l) ≡ s .fl (s .dep l)) ⊎ (t .subs (s .dep l) ≡ []) → t .fl (s .dep l) ≡ f1
       keeps l lv a e (inl q) = q ∙ e
       keeps l lv a e (inr q) =
           absurd (nil-none (t .subs (s .dep l)) l q

@@ -3,19 +3,20 @@ use mathlib.Core.Path.{_≡_, refl, sym, ap, _∙_, subst}
 use mathlib.Core.Logic.{_⊎_, inl, inr}
 use mathlib.Core.Bool.{Bool, true, false}
 use mathlib.Core.List.{List, [], _∷_, _++_, append-nil}
-use mathlib.Core.Option.{none, some}
+use mathlib.Core.Option.{Option, none, some}
 use Prim.Native.Nat.{ℕ, _≤_, _<_}
 use native.Mathlib.Omega.{arith}
 use lib.Dec.{eqb}
 use lib.ListN.{length}
 use borrow.Author.Tests.{eqb-true, eqb-false}
 use Rattle.primitive.specs.declared.flags.Named.{Named}
-use Rattle.formula.specs.Trees.{size, nesting, names}
+use Rattle.formula.specs.Trees.{Tree, size, nesting, names}
 use Rattle.formula.specs.Legal.{mostCells, mostNesting}
-use Rattle.meaning.specs.State.{St, Kind, signal, computed, effect, scope, readable, deps, f0, f1, f2, f17}
+use Rattle.meaning.specs.State.{St, Kind, signal, computed, effect, scope, capacities, readable, rank, deps, f0, f1, f2, f17}
 use Rattle.meaning.specs.Engine.{levelOf}
 use Rattle.meaning.specs.Reserve.{total, reserveOf, reserve}
 use Rattle.meaning.specs.Refusals.{mostLevel, mostDepth}
+use Rattle.meaning.specs.Owners.{Below, itself, through}
 use Rattle.meaning.specs.WellFormed.{In, Once, Lists, readLinks, ComputedFlags, never, clean, stale, maybe, dirty, EffectFlags, watching, pushed, pending, dirty as soiled, WellFormed}
 use Rattle.meaning.proofs.Laws.{clash, either}
 use Rattle.meaning.proofs.Members.{none-nil, nil-none}
@@ -36,7 +37,7 @@ only n m = m ≡ n
 
 -- ---- what no read, write or disposal changes
 pub record Static (g : Given) : Type 0 where
-  pub names-lower : (n m : ℕ) → n < g .size → In m (names (g .form n)) → (readable (g .kind m) ≡ true) × (m < n)
+  pub names-lower : (n m : ℕ) → n < g .size → In m (names (g .form n)) → (readable (g .kind m) ≡ true) × (rank m < rank n)
   pub nameless : (n : ℕ) → n < g .size → (g .kind n ≡ signal) ⊎ (g .kind n ≡ scope) → names (g .form n) ≡ []
   pub owner-lower : (n o : ℕ) → n < g .size → g .owner n ≡ some o → o < n
   pub owner-kind : (n : ℕ) → n < g .size → readable (g .kind n) ≡ true → g .owner n ≡ none
@@ -44,6 +45,7 @@ pub record Static (g : Given) : Type 0 where
   pub nesting-low : (n : ℕ) → n < g .size → nesting (g .form n) ≤ mostNesting
   pub levels : (n : ℕ) → n < g .size → g .level n ≡ levelOf (g .level) (g .kind n) (g .form n) (g .owner n)
   pub level-low : (n : ℕ) → n < g .size → g .level n ≤ mostLevel (g .kind n)
+  pub room-within : capacities (g .room) ≡ true
   pub nodes-fit : g .size ≤ g .room .nodes
   pub cells-fit : g .used ≤ g .room .cells
 
@@ -52,7 +54,7 @@ pub record Goes (g : Given) (d u : ℕ) : Type 0 where
   pub of-signal : g .kind u ≡ signal → ⊥
   pub of-computed : g .kind u ≡ computed → readable (g .kind d) ≡ true
   pub of-scope : g .kind u ≡ scope → readable (g .kind d) ≡ false
-  pub lower : readable (g .kind d) ≡ true → d < u
+  pub lower : readable (g .kind d) ≡ true → rank d < rank u
   pub named : readable (g .kind d) ≡ true → In d (names (g .form u))
   pub owned : readable (g .kind d) ≡ false → g .owner d ≡ some u
 
@@ -78,6 +80,15 @@ Slots g s = Lists (g .room .slots) (g .size) (s .free) (s .live) (s .dep) (s .su
 
 abbrev pub reserved : Given → (ℕ → Bool) → ℕ
 reserved g gn = total (λ n. reserveOf (g .kind n) (gn n) (g .form n) (g .owner n)) (g .size)
+
+-- a gone node counts no more than a live one
+pub reserve-least : (k : Kind) (b : Bool) (t : Tree) (p : Option ℕ) → reserveOf k true t p ≤ reserveOf k b t p
+reserve-least signal b t p = omega arith
+reserve-least computed b t p = omega arith
+reserve-least effect true t p = omega arith
+reserve-least effect false t p = omega arith
+reserve-least scope true t p = omega arith
+reserve-least scope false t p = omega arith
 
 pub record Inside (g : Given) (X : Set) (s : St) : Type 0 where
   pub same : given s ≡ g
@@ -188,6 +199,7 @@ module _ (s : St) (w : WellFormed s) where
     nesting-low = w .limits .nesting-low;
     levels = w .limits .levels;
     level-low = w .limits .level-low;
+    room-within = w .limits .room-within;
     nodes-fit = w .limits .nodes-fit;
     cells-fit = w .limits .cells-fit;
   }
@@ -338,6 +350,7 @@ module _ (s : St) (st : Static (given s)) (i : Inside (given s) nobody s) where
           nesting-low = st .nesting-low;
           levels = st .levels;
           level-low = st .level-low;
+          room-within = st .room-within;
           nodes-fit = st .nodes-fit;
           cells-fit = st .cells-fit;
           reserve-fits = i .fits;
@@ -358,19 +371,25 @@ module _ (s : St) (st : Static (given s)) (i : Inside (given s) nobody s) where
         };
       }
 
--- ---- what a ring may come to from d: lower signals and computeds; from an effect or a scope also higher effects and scopes
+below-then : (owner : ℕ → Option ℕ) (d m k : ℕ) → Below owner d m → Below owner m k → Below owner d k
+below-then owner d m k p (itself e) = subst (Below owner d) (sym e) p
+below-then owner d m k p (through o q e) = through o (below-then owner d m o p q) e
+
+-- ---- what a ring may come to from d: lower signals and computeds; from an effect or a scope also higher effects and scopes, which it owns
 pub record Under (g : Given) (d m : ℕ) : Type 0 where
-  pub low : readable (g .kind m) ≡ true → readable (g .kind d) ≡ true → m ≤ d
+  pub low : readable (g .kind m) ≡ true → readable (g .kind d) ≡ true → rank m ≤ rank d
   pub high : readable (g .kind m) ≡ false → (readable (g .kind d) ≡ false) × (d ≤ m)
+  pub owned : readable (g .kind m) ≡ false → Below (g .owner) d m
 
 module _ (g : Given) (st : Static g) where
   pub under-same : (d : ℕ) → Under g d d
-  under-same d = record { low = λ a b. omega arith; high = λ a. (a, omega arith) }
+  under-same d = record { low = λ a b. omega arith; high = λ a. (a, omega arith); owned = λ a. itself refl }
 
   pub under-then : (d m k : ℕ) → Under g d m → Under g m k → Under g d k
   under-then d m k p q = record {
     low = λ a b. either (readable (g .kind m)) (λ e. let x = p .low e b in let y = q .low a e in omega arith) (λ e. clash b (p .high e .0));
     high = λ a. let y = q .high a in let x = p .high (y .0) in let z = y .1 in let w = x .1 in (x .0, omega arith);
+    owned = λ a. below-then (g .owner) d m k (p .owned (q .high a .0)) (q .owned a);
   }
 
   -- an owner is no signal and no computed
@@ -387,6 +406,7 @@ module _ (g : Given) (st : Static g) where
   goes-under d u h l = record {
     low = λ a b. let x = l .lower a in omega arith;
     high = λ a. let x = st .owner-lower d u h (l .owned a) in (owner-owns d u l a, omega arith);
+    owned = λ a. through u (itself refl) (l .owned a);
   }
 
   pub never-back : (d u : ℕ) → d < g .size → Goes g d u → Under g d u → ⊥

@@ -17,7 +17,6 @@ use Rattle.meaning.specs.Marks.{propagate}
 use Rattle.meaning.specs.Reads.{evaluate}
 use Rattle.meaning.specs.Engine.{logged, run, flushOn, flushAt, store, node, owned, newSignal, newComputed, newScope, newEffect, endAt}
 use Rattle.meaning.specs.Words.{Command, makeSignal, makeComputed, makeEffect, makeScope, setTo, addTo, readOf, disposeOf, batchStart, batchEnd, commandOf, nodeOf, ownerOf, formulaOf}
-use Rattle.meaning.specs.Reserve.{total}
 use Rattle.meaning.specs.Refusals.{sightOf, refusal}
 use Rattle.meaning.specs.Commands.{perform, performAny, answer, command}
 use Rattle.meaning.proofs.Laws.{branch, up-other}
@@ -70,7 +69,7 @@ store-keeps s n v =
     at p (suc d) = keeps p
 
 end-keeps : (s : St) (d : ℕ) → Keeps s (endAt s d)
-end-keeps s zero = keeps s
+end-keeps s zero = record { still = refl; gone = λ n e. e }
 end-keeps s (suc zero) = let t = withDepth s 0 in keeps-then s t _ (record { still = refl; gone = λ n e. e }) (flushOn-keeps (s .queue) t)
 end-keeps s (suc (suc d)) = record { still = refl; gone = λ n e. e }
 
@@ -173,9 +172,3 @@ command-stays well s rows ws = go (refusal well (sightOf s rows) ws)
     go : (r : ℕ) → Stays s (answer r s ws .st)
     go zero = stays-then s (withLog s []) _ (kept-stays s (withLog s []) (record { still = refl; gone = λ n e. e })) (any-stays (withLog s []) (commandOf ws))
     go (suc r) = kept-stays s s (keeps s)
-
--- ---- sums that agree
-pub total-same : (f g : ℕ → ℕ) (n : ℕ) → ((m : ℕ) → m < n → g m ≡ f m) → total g n ≡ total f n
-unfolding total
-total-same f g zero h = refl
-total-same f g (suc n) h = ap₂ (λ (a b : ℕ). a + b) (total-same f g n (λ m l. h m (omega arith))) (h n (omega arith))

@@ -1,7 +1,9 @@
 pub mod Laws
+pub mod Steps
 pub mod Table
 pub mod Oracle
 pub mod Refused
+pub mod Performed
 pub mod Rings
 pub mod Still
 pub mod Kept
@@ -31,3 +33,9 @@ pub mod Accepted
 pub mod Rows
 pub mod Binding
 pub mod Bound
+pub mod Moments
+pub mod Marked
+pub mod Disposed
+pub mod Unwatched
+pub mod Throughout
+pub mod Promised

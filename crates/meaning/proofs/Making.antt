@@ -11,6 +11,7 @@ use lib.ListN.{length}
 use borrow.Author.Tests.{eqb-true, eqb-false, ltb-true, ltb-false}
 use Rattle.primitive.specs.declared.flags.Named.{Named}
 use Rattle.primitive.specs.declared.values.Value.{Value}
+use Rattle.lists.proofs.SumLaws.{sum-same}
 use Rattle.formula.specs.Trees.{Tree, size, nesting, names}
 use Rattle.formula.specs.Legal.{mostCells, mostNesting}
 use Rattle.meaning.specs.State.{St, Kind, signal, computed, effect, scope, readable, deps, up}
@@ -19,7 +20,6 @@ use Rattle.meaning.specs.Reserve.{total, reserveOf, reserve}
 use Rattle.meaning.specs.Refusals.{mostLevel}
 use Rattle.meaning.specs.WellFormed.{In, Once, readLinks, EffectFlags, WellFormed}
 use Rattle.meaning.proofs.Laws.{clash, either, up-same, up-other, up-by, in-left}
-use Rattle.meaning.proofs.Kept.{total-same}
 use Rattle.meaning.proofs.Still.{Given, given}
 use Rattle.meaning.proofs.Binding.{ReadsStay}
 use Rattle.meaning.proofs.Inside.{nobody, also, Static, Rests, Slots, Inside, at-same, rest-inside, reserved}
@@ -147,7 +147,7 @@ module _ (s : St) (w : WellFormed s) (k : Kind) (t : Tree) (o : Option ℕ) (b :
   unfolding reserve total
   new-reserve =
       ap₂ (λ (x y : ℕ). x + y)
-      (total-same (λ m. reserveOf (s .kind m) (s .gone m) (s .form m) (s .owner m)) (λ m. reserveOf (N .kind m) (N .gone m) (N .form m) (N .owner m)) (s .size)
+      (sum-same (λ m. reserveOf (N .kind m) (N .gone m) (N .form m) (N .owner m)) (λ m. reserveOf (s .kind m) (s .gone m) (s .form m) (s .owner m)) (s .size)
       (λ m h. reserve-at _ _ _ _ _ _ _ _ (kind-old m h) (old (s .gone) false m h) (old (s .form) t m h) (old (s .owner) o m h)))
       (reserve-at _ _ _ _ _ _ _ _ (kind-new (s .size) refl) (gone-new (s .size) refl) (form-new (s .size) refl) (owner-new (s .size) refl))
 
@@ -188,6 +188,7 @@ module _ (s : St) (w : WellFormed s) (k : Kind) (t : Tree) (o : Option ℕ) (b :
             ∙ sym (level-at (N .level) _ _ _ _ _ _ (kind-old m z) (old (s .form) t m z) (old (s .owner) o m z)));
         level-low = λ m h. split m h (λ z. subst (λ (x : Kind). N .level m ≤ mostLevel x) (sym (kind-new m z)) (subst (λ (x : ℕ). x ≤ mostLevel k) (sym (level-new m z)) (fits .level)))
             (λ z. subst (λ (x : Kind). N .level m ≤ mostLevel x) (sym (kind-old m z)) (subst (λ (x : ℕ). x ≤ mostLevel (s .kind m)) (sym (levels-old m z)) (l .level-low m z)));
+        room-within = l .room-within;
         nodes-fit = omega arith;
         cells-fit = fits .cells;
       }

@@ -11,6 +11,7 @@ use borrow.Author.Tests.{eq-eqb, ne-eqb, eqb-true, eqb-false}
 use Rattle.meaning.specs.State.{Kind, readable}
 use Rattle.meaning.specs.Links.{remove, isNil}
 use Rattle.meaning.specs.Reserve.{total}
+pub use Rattle.lists.proofs.SumLaws.{sum-le as total-least}
 use Rattle.meaning.specs.WellFormed.{In, Once, readLinks}
 use Rattle.meaning.proofs.Laws.{clash, false≢true, either, branch, in-left, in-right, in-cases}
 
@@ -182,10 +183,10 @@ gather-once f (suc n) o d =
     (λ x i j. let r = gather-in f n x i in let a = r .1 in let e : r .0 ≡ n = d (r .0) n x (r .2) j in absurd (omega arith))
 
 -- ---- sums
-pub total-least : (f g : ℕ → ℕ) (n : ℕ) → ((m : ℕ) → m < n → f m ≤ g m) → total f n ≤ total g n
+pub total-both : (f g h : ℕ → ℕ) (n : ℕ) → ((m : ℕ) → m < n → f m + g m ≡ h m) → total f n + total g n ≡ total h n
 unfolding total
-total-least f g zero h = omega arith
-total-least f g (suc n) h = let a = total-least f g n (λ m l. h m (omega arith)) in let b = h n (omega arith) in omega arith
+total-both f g h zero e = refl
+total-both f g h (suc n) e = let a = total-both f g h n (λ m l. e m (omega arith)) in let b = e n (omega arith) in omega arith
 
 -- at u there is k to spare
 pub total-spare : (f g : ℕ → ℕ) (n u k : ℕ) → u < n → f u + k ≤ g u → ((m : ℕ) → m < n → f m ≤ g m) → total f n + k ≤ total g n

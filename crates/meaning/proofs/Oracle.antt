@@ -13,10 +13,11 @@ use Rattle.meaning.specs.Links.{remove, each, renew, spent, insert, link
 use Rattle.meaning.specs.Marks.{chain, calm, effects, notify, mark, prop, soil, wakes}
 use Rattle.meaning.specs.Reads.{evalBy, settleW, firstW, updComputed, updSignal, updW, sameSlots, steady, checkOn, checkW, pendingW, freshW, fresh}
 use Rattle.meaning.specs.Engine.{logged, rerun, run, flushOn, store, tallest, newSignal, newComputed, newScope, newEffect}
-use Rattle.meaning.specs.Words.{noWord, oneWord, twoWords, wholeCells, wordAndCells, codes as commands, commandOf, after, grown, parse, alone, treeOf}
+use Rattle.meaning.specs.Words.{word, noWord, wholeCells, codes as commands, commandOf, after, grown, parse, treeOf}
 use Rattle.meaning.specs.Reserve.{total, reserve}
 use Rattle.meaning.specs.Refusals.{liveEffects, asksOf, isA, unknown, wrongNode, goneNode, allReadable, badFormula, tooHigh, noRoom, wrongDepth, fewRows, table as refusals, first, refusal}
-use Rattle.meaning.specs.Commands.{perform, performAny, answer, command, shown, answers, afterAll}
+use Rattle.meaning.specs.Commands.{perform, performAny, answer, command}
+use Rattle.meaning.specs.Cases.{shown, answers, afterAll}
 use Rattle.meaning.specs.Played.{Script, script, depEnds, subEnds, lines, Played}
 
 abbrev script0 : Script
@@ -2217,5 +2218,5 @@ abbrev scripts : List Script
 scripts = script0 ∷ script1 ∷ script2 ∷ script3 ∷ script4 ∷ script5 ∷ script6 ∷ script7 ∷ script8 ∷ script9 ∷ script10 ∷ script11 ∷ script12 ∷ script13 ∷ script14 ∷ script15 ∷ script16 ∷ script17 ∷ script18 ∷ script19 ∷ script20 ∷ script21 ∷ script22 ∷ script23 ∷ script24 ∷ script25 ∷ script26 ∷ script27 ∷ script28 ∷ script29 ∷ script30 ∷ script31 ∷ []
 
 pub all-played : Played scripts
-unfolding sum difference minimum maximum less clamp same sameNumber isZero cellOf codes readOf bareOf apply written size names up below empty remove each renew spent insert link cut lastLink disposeW unwatchedW unlinkN chain calm effects notify mark prop soil wakes evalBy settleW firstW updComputed updSignal updW sameSlots steady checkOn checkW pendingW freshW fresh logged rerun run flushOn store tallest newSignal newComputed newScope newEffect noWord oneWord twoWords wholeCells wordAndCells commands commandOf after grown parse alone treeOf total reserve liveEffects asksOf isA unknown wrongNode goneNode allReadable badFormula tooHigh noRoom wrongDepth fewRows refusals first refusal perform performAny answer command shown answers afterAll depEnds subEnds lines Played
+unfolding sum difference minimum maximum less clamp same sameNumber isZero cellOf codes readOf bareOf apply written size names up below empty remove each renew spent insert link cut lastLink disposeW unwatchedW unlinkN chain calm effects notify mark prop soil wakes evalBy settleW firstW updComputed updSignal updW sameSlots steady checkOn checkW pendingW freshW fresh logged rerun run flushOn store tallest newSignal newComputed newScope newEffect noWord word wholeCells commands commandOf after grown parse treeOf total reserve liveEffects asksOf isA unknown wrongNode goneNode allReadable badFormula tooHigh noRoom wrongDepth fewRows refusals first refusal perform performAny answer command shown answers afterAll depEnds subEnds lines Played
 all-played = (refl, refl, (refl, refl, (refl, refl, (refl, refl, (refl, refl, (refl, refl, (refl, refl, (refl, refl, (refl, refl, (refl, refl, (refl, refl, (refl, refl, (refl, refl, (refl, refl, (refl, refl, (refl, refl, (refl, refl, (refl, refl, (refl, refl, (refl, refl, (refl, refl, (refl, refl, (refl, refl, (refl, refl, (refl, refl, (refl, refl, (refl, refl, (refl, refl, (refl, refl, (refl, refl, (refl, refl, (refl, refl, tt))))))))))))))))))))))))))))))))

@@ -10,16 +10,16 @@ use lib.ListN.{length, length-append}
 use borrow.Author.Tests.{eqb-true, eqb-false}
 use Rattle.primitive.specs.Values.{isZero}
 use Rattle.formula.specs.Trees.{Tree, constant, read, two, choose, names}
-use Rattle.meaning.specs.State.{St, readable, f1}
+use Rattle.meaning.specs.State.{St, readable, rank, f1, up}
 use Rattle.meaning.specs.Links.{headOf, lastOf, goesTo, isFrom, renew, spent, insert, link}
 use Rattle.meaning.specs.Reads.{Ans, Out, evalBy, settleW, readW}
 use Rattle.meaning.specs.Reserve.{reserveOf}
 use Rattle.meaning.specs.WellFormed.{In, readLinks}
-use Rattle.meaning.proofs.Laws.{clash, false≢true, either, branch, or-false, up-same, up-other, in-left, in-right}
+use Rattle.meaning.proofs.Laws.{clash, false≢true, either, branch, or-false, up-same, up-other, in-left, in-right, in-cases}
 use Rattle.meaning.proofs.Members.{nil-none, reads-few, reads-append, reads-agree}
 use Rattle.meaning.proofs.Still.{Given}
-use Rattle.meaning.proofs.Inside.{Set, also, Static, Goes, Inside, widen, let-out}
-use Rattle.meaning.proofs.Room.{ownerLinks, paid, spends, Paid, rests-paid, slot-left}
+use Rattle.meaning.proofs.Inside.{Set, also, Static, Goes, Inside, reserved, widen, let-out}
+use Rattle.meaning.proofs.Room.{ownerLinks, paid, spends, liveLinks, Paid, rests-paid, live-reserved, slot-left}
 use Rattle.meaning.proofs.Linking.{renew-inside, insert-inside, other}
 use Rattle.meaning.proofs.Frames.{Low, Frame, frame-flags, frame-then, frame-wider, paid-frame, Open, rests-clean}
 use Rattle.meaning.proofs.Soiling.{shallow-inside, shallow-clean, shallow-frame}
@@ -27,25 +27,25 @@ use Rattle.meaning.proofs.Soiling.{shallow-inside, shallow-clean, shall
 module _ (g : Given) (st : Static g) where
   -- the nodes of X that can be read lie above n
   abbrev pub Above : Set → ℕ → Type 0
-  Above X n = (m : ℕ) → X m → readable (g .kind m) ≡ true → n < m
+  Above X n = (m : ℕ) → X m → readable (g .kind m) ≡ true → rank n < rank m
 
   -- ---- a node brought up to date
   pub record Freshened (X : Set) (s : St) (n : ℕ) (a : Ans) : Type 0 where
     pub inside : Inside g X (a .st)
-    pub frame : Frame g (Low g (suc n)) n s (a .st)
+    pub frame : Frame g (Low g (suc (rank n))) (rank n) s (a .st)
     pub clean : a .st .fl n ≡ f1
     pub changed : a .yes ≡ true → s .fl n ≡ f1 → ⊥
 
-  -- fr brings nodes below k up to date
+  -- fr brings nodes of a rank below k up to date
   abbrev pub Freshens : ℕ → (St → ℕ → Ans) → Type 1
-  Freshens k fr = (X : Set) (s : St) (n : ℕ) → Inside g X s → Open g st X s → n < g .size → readable (g .kind n) ≡ true → Above X n → n < k → Freshened X s n (fr s n)
+  Freshens k fr = (X : Set) (s : St) (n : ℕ) → Inside g X s → Open g st X s → n < g .size → readable (g .kind n) ≡ true → Above X n → rank n < k → Freshened X s n (fr s n)
 
   pub record Settled (X : Set) (s : St) (n : ℕ) (t : St) : Type 0 where
     pub inside : Inside g X t
-    pub frame : Frame g (Low g (suc n)) (suc n) s t
+    pub frame : Frame g (Low g (suc (rank n))) (suc (rank n)) s t
     pub clean : t .fl n ≡ f1
 
-  pub settle-inside : (k : ℕ) (fr : St → ℕ → Ans) → Freshens k fr → (X : Set) (s : St) (n : ℕ) → Inside g X s → Open g st X s → n < g .size → readable (g .kind n) ≡ true → Above X n → n < k
+  pub settle-inside : (k : ℕ) (fr : St → ℕ → Ans) → Freshens k fr → (X : Set) (s : St) (n : ℕ) → Inside g X s → Open g st X s → n < g .size → readable (g .kind n) ≡ true → Above X n → rank n < k
       → Settled X s n (settleW fr s n)
   unfolding settleW
   settle-inside k fr frs X s n i o h r ab lt =
@@ -54,29 +54,30 @@ module _ (g : Given) (st : Static g) where
       branch (Settled X s n) (a .yes)
       (λ e. record {
         inside = shallow-inside g X (a .st) n (f .inside);
-        frame = shallow-frame g X (Low g (suc n)) n (suc n) s (a .st) n i (f .inside) (f .frame) (omega arith) (omega arith) r (f .changed e);
+        frame = shallow-frame g X (Low g (suc (rank n))) n (suc n) s (a .st) n i (f .inside) (f .frame) (omega arith) (omega arith) r (f .changed e);
         clean = shallow-clean g X (a .st) n (f .inside) n (f .clean);
       })
-      (λ e. record { inside = f .inside; frame = frame-wider g (Low g (suc n)) (Low g (suc n)) n (suc n) s (a .st) (λ m z. z) (omega arith) (f .frame); clean = f .clean })
+      (λ e. record { inside = f .inside; frame = frame-wider g (Low g (suc (rank n))) (Low g (suc (rank n))) n (suc n) s (a .st) (λ m z. z) (omega arith) (f .frame); clean = f .clean })
 
   -- ---- an evaluation of u under way: i reads are made
   abbrev pub Near : ℕ → Set
-  Near u m = Low g u m ⊎ (m ≡ u)
+  Near u m = Low g (rank u) m ⊎ (m ≡ u)
 
   abbrev pub reads-of : ℕ → ℕ
   reads-of u = length (names (g .form u))
 
   pub record During (X : Set) (u : ℕ) (s₀ : St) (i : ℕ) (s : St) : Type 0 where
     pub inside : Inside g X s
-    pub frame : Frame g (Near u) u s₀ s
+    pub frame : Frame g (Near u) (rank u) s₀ s
     pub few : length (s .done u) ≤ i
+    pub reads : (l : ℕ) → In l (s .done u) → readable (g .kind (s .dep l)) ≡ true
     pub left : length (readLinks (g .kind) (s .dep) (s .rest u)) ≤ reads-of u
     pub spare : length (ownerLinks (g .kind u) (s .subs u)) + (reads-of u + reads-of u) ≤ spends g s u
     pub tail : s₀ .rest u ≡ [] → s .rest u ≡ []
     pub known : (n : ℕ) → X n ⊎ (X n → ⊥)
     pub pays : (n : ℕ) → n < g .size → X n → (n ≡ u → ⊥) → Paid g s n
 
-  module _ (X : Set) (u : ℕ) (xu : X u) (hu : u < g .size) (above : (m : ℕ) → X m → readable (g .kind m) ≡ true → u ≤ m) (s₀ : St) (i₀ : Inside g X s₀) where
+  module _ (X : Set) (u : ℕ) (xu : X u) (hu : u < g .size) (above : (m : ℕ) → X m → readable (g .kind m) ≡ true → rank u ≤ rank m) (s₀ : St) (i₀ : Inside g X s₀) where
     paid-u : (i : ℕ) (s : St) → During X u s₀ i s → paid g s u ≤ i + reads-of u + length (ownerLinks (g .kind u) (s .subs u))
     paid-u i s d =
         let a = ap length (reads-append (g .kind) (s .dep) (s .done u) (s .rest u)) in
@@ -96,16 +97,29 @@ module _ (g : Given) (st : Static g) where
           (λ e. d .pays n h x (eqb-false n u e));
     }
 
+    -- all have paid
+    all-pay : (i : ℕ) (s : St) → During X u s₀ i s → i ≤ reads-of u → (n : ℕ) → n < g .size → Paid g s n
+    all-pay i s d le n h = go (d .known n)
+      where
+        go : X n ⊎ (X n → ⊥) → Paid g s n
+        go (inl x) = during-open i s d le .pays n h x
+        go (inr f) = rests-paid g st X s n (d .inside) h (d .inside .rests n h f)
+
+    -- so, between any two reads, live links are at most the reserve, and that at most the slots
+    pub room-during : (i : ℕ) (s : St) → During X u s₀ i s → i ≤ reads-of u → (liveLinks s ≤ reserved g (s .gone)) × (reserved g (s .gone) ≤ g .room .slots)
+    room-during i s d le = live-reserved g st X s (d .inside) (all-pay i s d le)
+
     outside : (n : ℕ) → X n → (n ≡ u → ⊥) → Near u n → ⊥
     outside n x f (inl p) = let a = above n x (ap readable (p .0)) in let b = p .1 in omega arith
     outside n x f (inr q) = f q
 
     -- one step more
-    step : (i : ℕ) (s t : St) → During X u s₀ i s → Inside g X t → Frame g (Near u) u s t → length (t .done u) ≤ suc i → length (readLinks (g .kind) (t .dep) (t .rest u)) ≤ reads-of u → (s .rest u ≡ [] → t .rest u ≡ []) → During X u s₀ (suc i) t
-    step i s t d j f few left tail = record {
+    step : (i : ℕ) (s t : St) → During X u s₀ i s → Inside g X t → Frame g (Near u) (rank u) s t → length (t .done u) ≤ suc i → length (readLinks (g .kind) (t .dep) (t .rest u)) ≤ reads-of u → (s .rest u ≡ [] → t .rest u ≡ []) → ((l : ℕ) → In l (t .done u) → readable (g .kind (t .dep l)) ≡ true) → During X u s₀ (suc i) t
+    step i s t d j f few left tail reads = record {
       inside = j;
       frame = frame-then g (Near u) u s₀ s t (i₀ .lists) (d .inside .lists) (d .frame) f;
       few = few;
+      reads = reads;
       left = left;
       spare = let a = ap length (owners (readable (g .kind u)) refl) in let b = spent in let c = d .spare in omega arith;
       tail = λ e. tail (d .tail e);
@@ -122,11 +136,11 @@ module _ (g : Given) (st : Static g) where
             (either (readable (g .kind u)) (λ r. j .gone-kind u hu r ∙ sym (d .inside .gone-kind u hu r)) (λ r. f .gone u r))
 
     pub later : (i j : ℕ) (s : St) → i ≤ j → During X u s₀ i s → During X u s₀ j s
-    later i j s le d = let a = d .few in record { inside = d .inside; frame = d .frame; few = omega arith; left = d .left; spare = d .spare; tail = d .tail; known = d .known; pays = d .pays }
+    later i j s le d = let a = d .few in record { inside = d .inside; frame = d .frame; few = omega arith; reads = d .reads; left = d .left; spare = d .spare; tail = d .tail; known = d .known; pays = d .pays }
 
     -- ---- the link to m, which is clean
     module _ (m : ℕ) (named : In m (names (g .form u))) where
-      m-low : (readable (g .kind m) ≡ true) × (m < u)
+      m-low : (readable (g .kind m) ≡ true) × (rank m < rank u)
       m-low = st .names-lower u m hu named
 
       m-off : X m → ⊥
@@ -147,7 +161,7 @@ module _ (g : Given) (st : Static g) where
       renewed i s v d [] e q = false≢true q
       renewed i s v d (l ∷ ls) e q =
           let t = renew s u v (l ∷ ls) in
-          let f : Frame g (Near u) u s t = frame-flags g (Near u) u s t refl refl refl refl refl refl
+          let f : Frame g (Near u) (rank u) s t = frame-flags g (Near u) u s t refl refl refl refl refl refl
           (λ n a. (up-other (s .done) u (s .done u ++ l ∷ []) n (λ z. a (inr z)), up-other (s .rest) u ls n (λ z. a (inr z)))) (λ n a k. refl) (λ n z. z) in
           let a = ap length (up-same (s .done) u (s .done u ++ l ∷ [])) in
           let b = length-append (s .done u) (l ∷ []) in
@@ -158,21 +172,28 @@ module _ (g : Given) (st : Static g) where
           let w = ap (λ (z : List ℕ). length (readLinks (g .kind) (s .dep) z)) e in
           let k = d .left in
           step i s t d (renew-inside g X s u v l ls (d .inside) xu e) f (omega arith) (omega arith) (λ p. absurd (nil-none (s .rest u) l p (subst (In l) (sym e) (inl refl))))
+          (λ k j. last-read d (λ k j. d .reads k j) k (subst (In k) (up-same (s .done) u (s .done u ++ l ∷ [])) j))
+        where
+          last-read : During X u s₀ i s → ((k : ℕ) → In k (s .done u) → readable (g .kind (s .dep k)) ≡ true) → (k : ℕ) → In k (s .done u ++ l ∷ []) → readable (g .kind (s .dep k)) ≡ true
+          last-read d h k j = in-cases k (s .done u) (l ∷ []) j (h k) (λ z. here z)
+            where
+              here : In k (l ∷ []) → readable (g .kind (s .dep k)) ≡ true
+              here (inl z) = ap (λ (x : ℕ). readable (g .kind (s .dep x))) z ∙ ap (λ (x : ℕ). readable (g .kind x)) (eqb-true (s .dep l) m q) ∙ m-low .0
 
       module _ (i : ℕ) (s : St) (v : ℕ) (d : During X u s₀ i s) (lt : i < reads-of u) (clean : s .fl m ≡ f1) where
         all-paid : (n : ℕ) → n < g .size → Paid g s n
-        all-paid n h = go (d .known n)
-          where
-            go : X n ⊎ (X n → ⊥) → Paid g s n
-            go (inl x) = during-open i s d (omega arith) .pays n h x
-            go (inr f) = rests-paid g st X s n (d .inside) h (d .inside .rests n h f)
+        all-paid = all-pay i s d (omega arith)
+
+        -- there is a slot for it
+        pub slot-free : s .free ≡ [] → ⊥
+        slot-free = let a = paid-u i s d in let b = d .spare in slot-left g st X s u (d .inside) hu (omega arith) all-paid .0
 
         unspent : (s .stuck || spent s) ≡ s .stuck
         unspent = let a = paid-u i s d in let b = d .spare in ap (λ (x : Bool). s .stuck || x) (slot-left g st X s u (d .inside) hu (omega arith) all-paid .1) ∙ or-false (s .stuck)
 
         inserted : (ls : List ℕ) → s .free ≡ ls → During X u s₀ (suc i) (insert s m u v ls)
         unfolding insert
-        inserted [] e = let a = paid-u i s d in let b = d .spare in absurd (slot-left g st X s u (d .inside) hu (omega arith) all-paid .0 e)
+        inserted [] e = absurd (slot-free e)
         inserted (l ∷ ls) e =
             let t = insert s m u v (l ∷ ls) in
             let hm : m < g .size = let z = m-low .1 in omega arith in
@@ -189,7 +210,7 @@ module _ (g : Given) (st : Static g) where
             let it : Inside g X t =
             let-out g X t m (widen g (also (also X m) u) (also X m) t in-x j)
             (rests-clean g st (t .queue) (t .dep) (t .sub) m (t .fl m) (t .gone m) (t .done m) (t .rest m) (t .subs m) hm (m-low .0) clean (d .inside .gone-kind m hm (m-low .0)) (was .tail) few-m) in
-            let f : Frame g (Near u) u s t = record {
+            let f : Frame g (Near u) (rank u) s t = record {
               lists = λ n a. (up-other (s .done) u (s .done u ++ l ∷ []) n (λ z. a (inr z)), refl);
               subs = λ n a. up-other (s .subs) m (s .subs m ++ l ∷ []) n (λ q. let x = m-low .1 in let y = a (ap (λ (k : ℕ). readable (g .kind k)) q ∙ m-low .0) in omega arith);
               gone = λ n a. refl;
@@ -207,7 +228,13 @@ module _ (g : Given) (st : Static g) where
             let y = ap length rest-ends in
             let k = d .left in
             step i s t d it f (omega arith) (omega arith) (λ p. p)
+            (λ k j. in-cases k (s .done u) (l ∷ []) (subst (In k) (up-same (s .done) u (s .done u ++ l ∷ [])) j)
+            (λ z. ap (λ (x : ℕ). readable (g .kind x)) (up-other (s .dep) l m k (away k (d .inside .lists .deps-live k u (in-left k (s .done u) (s .rest u) z) .0))) ∙ d .reads k z)
+            (λ z. here k z))
           where
+            here : (k : ℕ) → In k (l ∷ []) → readable (g .kind (up (s .dep) l m k)) ≡ true
+            here k (inl z) = ap (λ (x : ℕ). readable (g .kind (up (s .dep) l m x))) z ∙ ap (λ (x : ℕ). readable (g .kind x)) (up-same (s .dep) l m) ∙ m-low .0
+
             in-x : (n : ℕ) → also (also X m) u n → also X m n
             in-x n (inl z) = z
             in-x n (inr q) = inl (subst X (sym q) xu)
@@ -219,33 +246,47 @@ module _ (g : Given) (st : Static g) where
             (λ e. branch (During X u s₀ (suc i)) (goesTo s (headOf (s .rest u)) m) (λ q. renewed i s v d (s .rest u) refl q)
             (λ q. branch (During X u s₀ (suc i)) (isFrom s (lastOf (s .subs m)) u v) (λ z. later i (suc i) s (omega arith) d) (λ z. inserted (s .free) refl)))
 
-      -- ---- a read of m
-      pub read-during : (k : ℕ) (fr : St → ℕ → Ans) → Freshens k fr → u ≤ k → (i : ℕ) (s : St) → During X u s₀ i s → i < reads-of u → During X u s₀ (suc i) (readW fr u s m)
-      read-during k fr frs le i s d lt =
+      -- ---- a read of m: it is brought up to date, and linked
+      pub m-settled : (k : ℕ) (fr : St → ℕ → Ans) → Freshens k fr → u ≤ k → (i : ℕ) (s : St) → During X u s₀ i s → i < reads-of u → Settled X s m (settleW fr s m)
+      m-settled k fr frs le i s d lt =
+          let lo = m-low .1 in
+          settle-inside k fr frs X s m (d .inside) (during-open i s d (omega arith)) (omega arith) (m-low .0) (λ n x r. let a = above n x r in omega arith) (omega arith)
+
+      pub settle-during : (k : ℕ) (fr : St → ℕ → Ans) → Freshens k fr → u ≤ k → (i : ℕ) (s : St) → During X u s₀ i s → i < reads-of u → During X u s₀ i (settleW fr s m)
+      settle-during k fr frs le i s d lt =
           let lo = m-low .1 in
           let t = settleW fr s m in
-          let w = settle-inside k fr frs X s m (d .inside) (during-open i s d (omega arith)) (omega arith) (m-low .0) (λ n x r. let a = above n x r in omega arith) (omega arith) in
-          let off : Low g (suc m) u → ⊥ = λ p. let a = p .1 in omega arith in
+          let w = m-settled k fr frs le i s d lt in
+          let off : Low g (suc (rank m)) u → ⊥ = λ p. let a = p .1 in omega arith in
           let same = w .frame .lists u off in
           let rest-ends : readLinks (g .kind) (t .dep) (s .rest u) ≡ readLinks (g .kind) (s .dep) (s .rest u) =
-          reads-agree (g .kind) (s .dep) (t .dep) (s .rest u) (λ l z. let x = d .inside .lists .deps-live l u (in-right l (s .done u) (s .rest u) z) in w .frame .links l (x .0) (λ p. off (subst (Low g (suc m)) (x .1) p)) .1) in
-          let wide : Frame g (Near u) u s t = frame-wider g (Low g (suc m)) (Near u) (suc m) u s t (λ n p. let a = p .1 in inl (p .0, omega arith)) (omega arith) (w .frame) in
+          reads-agree (g .kind) (s .dep) (t .dep) (s .rest u) (λ l z. let x = d .inside .lists .deps-live l u (in-right l (s .done u) (s .rest u) z) in w .frame .links l (x .0) (λ p. off (subst (Low g (suc (rank m))) (x .1) p)) .1) in
+          let wide : Frame g (Near u) (rank u) s t = frame-wider g (Low g (suc (rank m))) (Near u) (suc m) u s t (λ n p. let a = p .1 in inl (p .0, omega arith)) (omega arith) (w .frame) in
           let a = ap length (same .0) in
           let b = ap (λ (x : List ℕ). length (readLinks (g .kind) (t .dep) x)) (same .1) in
           let c = ap length rest-ends in
           let e = d .few in
           let f = d .left in
-          let settled : During X u s₀ i t = record {
+          let kept : (l : ℕ) → In l (t .done u) → readable (g .kind (t .dep l)) ≡ true = λ l j.
+          let z = subst (In l) (same .0) j in
+          let x = d .inside .lists .deps-live l u (in-left l (s .done u) (s .rest u) z) in
+          ap (λ (y : ℕ). readable (g .kind y)) (w .frame .links l (x .0) (λ p. off (subst (Low g (suc m)) (x .1) p)) .1) ∙ d .reads l z in
+          record {
             inside = w .inside;
             frame = frame-then g (Near u) u s₀ s t (i₀ .lists) (d .inside .lists) (d .frame) wide;
             few = omega arith;
+            reads = kept;
             left = omega arith;
-            spare = step i s t d (w .inside) wide (omega arith) (omega arith) (λ p. same .1 ∙ p) .spare;
+            spare = step i s t d (w .inside) wide (omega arith) (omega arith) (λ p. same .1 ∙ p) kept .spare;
             tail = λ q. same .1 ∙ d .tail q;
             known = d .known;
             pays = λ n h x q. paid-frame g st X (Near u) u s t n (d .inside) (w .inside) wide h (outside n x q) (d .pays n h x q);
-          } in
-          link-during i t (t .cycle) settled lt (w .clean)
+          }
+
+      pub read-during : (k : ℕ) (fr : St → ℕ → Ans) → Freshens k fr → u ≤ k → (i : ℕ) (s : St) → During X u s₀ i s → i < reads-of u → During X u s₀ (suc i) (readW fr u s m)
+      read-during k fr frs le i s d lt =
+          let t = settleW fr s m in
+          link-during i t (t .cycle) (settle-during k fr frs le i s d lt) lt (m-settled k fr frs le i s d lt .clean)
 
     -- ---- the formula, left to right
     pub eval-during : (k : ℕ) (fr : St → ℕ → Ans) → Freshens k fr → u ≤ k → (f : Tree) → ((m : ℕ) → In m (names f) → In m (names (g .form u))) → (i : ℕ) (s : St) → i + length (names f) ≤ reads-of u

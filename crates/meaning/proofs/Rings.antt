@@ -15,6 +15,7 @@ use Rattle.meaning.specs.Marks.{shallow}
 use Rattle.meaning.specs.Reads.{Ans, Out, evalBy, settleW, readW, firstW, updComputed, updSignal, updW, sameSlots, steady, checkOn, checkW, pendingW, freshW, fresh, settle, check, evaluate}
 use Rattle.meaning.specs.Engine.{logged, rerun, run, flushOn}
 use Rattle.meaning.proofs.Laws.{branch}
+use Rattle.meaning.proofs.Steps.{run-by}
 
 -- ---- the first ring
 pub record Drops (R : St → St → Type 0) : Type 0 where
@@ -224,14 +225,10 @@ module _ (R : St → St → Type 0) (r : Runs R) where
       (purge-ring R (r .renews .drops) y e)
 
   pub run-ring : (s : St) (e : ℕ) → R s (run s e)
-  unfolding run
   run-ring s e =
       let c = check s e in
       let p : R s (c .st) = check-ring R (r .renews) s e in
-      branch (R s) (s .fl e .dirty) (λ a. rerun-ring s e)
-      (λ a. branch (R s) (s .fl e .pending)
-      (λ b. branch (R s) (c .yes) (λ g. on s (c .st) _ p (rerun-ring (c .st) e)) (λ g. on s (c .st) _ p (r .renews .flags (c .st) e f2)))
-      (λ b. r .renews .flags s e f2))
+      run-by (R s) s e (λ a. rerun-ring s e) (λ b g. on s (c .st) _ p (rerun-ring (c .st) e)) (λ b g. on s (c .st) _ p (r .renews .flags (c .st) e f2)) (λ b. r .renews .flags s e f2)
 
   -- the flush takes effects off the queue besides
   pub flush-ring : ((s : St) (q : List ℕ) → R s (withQueue s q)) → (q : List ℕ) (s : St) → R s (flushOn s q)

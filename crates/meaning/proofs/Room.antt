@@ -1,21 +1,21 @@
 -- Room: each live link is paid for by a node, and a node that has not spent its reserve finds a free slot. Assumes nothing.
 use mathlib.Core.Path.{_≡_, refl, sym, ap, ap₂, _∙_, subst}
 use mathlib.Core.Logic.{_⊎_, inl, inr}
-use mathlib.Core.Bool.{Bool, true, false}
-use mathlib.Core.List.{List, [], _++_, append-nil}
+use mathlib.Core.Bool.{Bool, true, false, not}
+use mathlib.Core.List.{List, [], _∷_, _++_, append-nil}
 use mathlib.Core.Option.{Option, none, some}
-use Prim.Native.Nat.{ℕ, _+_, _≤_, _<_}
+use Prim.Native.Nat.{ℕ, zero, suc, _+_, _≤_, _<_}
 use native.Mathlib.Omega.{arith}
 use lib.Dec.{leb, ltb}
 use lib.ListN.{length, length-append}
-use borrow.Author.Tests.{le-ltb, lt-leb}
+use borrow.Author.Tests.{le-ltb, lt-leb, leb-false, ltb-false}
 use Rattle.formula.specs.Trees.{names}
 use Rattle.meaning.specs.State.{St, Kind, signal, computed, effect, scope, readable, deps}
 use Rattle.meaning.specs.Reserve.{total, ownedLink, reserveOf, reserve}
-use Rattle.meaning.specs.Links.{spent}
+use Rattle.meaning.specs.Links.{spent, insert}
 use Rattle.meaning.specs.WellFormed.{In, readLinks, WellFormed}
-use Rattle.meaning.proofs.Laws.{clash, either, branch, or-none, in-left, in-right}
-use Rattle.meaning.proofs.Members.{all-marked, all-below, gather, gather-length, in-gather, total-least, total-spare, reads-in}
+use Rattle.meaning.proofs.Laws.{clash, either, branch, or-none, or-left, or-right, in-left, in-right}
+use Rattle.meaning.proofs.Members.{most-marked, all-marked, total-both, all-below, gather, gather-length, in-gather, total-least, total-spare, reads-in}
 use Rattle.meaning.proofs.Still.{Given, given}
 use Rattle.meaning.proofs.Inside.{Set, nobody, Static, Rests, Slots, Inside, reserved, static, rest-inside}
 
@@ -156,9 +156,44 @@ module _ (g : Given) (st : Static g) where
         or-none (leb (reserve s + length (s .free)) (s .room .slots)) (ltb (s .room .slots) (reserve s)) (lt-leb (reserve s + length (s .free)) (s .room .slots) (omega arith)) (le-ltb (s .room .slots) (reserve s) (omega arith)),
       )
 
--- at rest
+-- at rest, and wherever nobody is under way: at every turn of a walk, and between two runs of a flush
+pub room-resting : (g : Given) (st : Static g) (s : St) → Inside g nobody s → (liveLinks s ≤ reserved g (s .gone)) × (reserved g (s .gone) ≤ g .room .slots)
+room-resting g st s i = live-reserved g st nobody s i (λ n h. rests-paid g st nobody s n i h (i .rests n h (λ z. z)))
+
 pub room-at-rest : (s : St) → WellFormed s → (liveLinks s ≤ reserve s) × (reserve s ≤ s .room .slots)
 unfolding reserve
-room-at-rest s w =
-    let i = rest-inside s w in
-    live-reserved (given s) (static s w) nobody s i (λ n h. rests-paid (given s) (static s w) nobody s n i h (i .rests n h (λ z. z)))
+room-at-rest s w = room-resting (given s) (static s w) s (rest-inside s w)
+
+-- ---- where a link is made
+ones : (n : ℕ) → total (λ l. 1) n ≡ n
+unfolding total
+ones zero = refl
+ones (suc n) = let a = ones n in omega arith
+
+-- a slot on the free list is not live
+pub live-and-free : (g : Given) (s : St) → Slots g s → total (λ l. one (s .live l)) (g .room .slots) + length (s .free) ≤ g .room .slots
+live-and-free g s o =
+    let n = g .room .slots in
+    let a = most-marked (λ l. one (not (s .live l))) n (s .free) (o .free-once) (λ l j. let x = o .free-not-live l j in let e = ap (λ (b : Bool). one (not b)) (x .0) in (x .1, omega arith)) in
+    let b = total-both (λ l. one (s .live l)) (λ l. one (not (s .live l))) (λ l. 1) n (λ l h. each (s .live l)) in
+    let c = ones n in
+    omega arith
+  where
+    each : (b : Bool) → one b + one (not b) ≡ 1
+    each true = refl
+    each false = refl
+
+-- a link that is made, and not stuck: live links are at most the reserve then, and that at most the slots
+pub made-in-room : (g : Given) (s : St) (d u v l : ℕ) (ls : List ℕ) → given s ≡ g → s .free ≡ l ∷ ls → Slots g (insert s d u v (l ∷ ls)) → insert s d u v (l ∷ ls) .stuck ≡ false
+    → (liveLinks (insert s d u v (l ∷ ls)) ≤ reserve (insert s d u v (l ∷ ls))) × (reserve (insert s d u v (l ∷ ls)) ≤ s .room .slots)
+unfolding insert spent reserve
+made-in-room g s d u v l ls is e o h =
+    let no = or-right (s .stuck) (spent s) h in
+    let a = leb-false (reserve s + length (s .free)) (s .room .slots) (or-left (leb (reserve s + length (s .free)) (s .room .slots)) (ltb (s .room .slots) (reserve s)) no) in
+    let b = ltb-false (s .room .slots) (reserve s) (or-right (leb (reserve s + length (s .free)) (s .room .slots)) (ltb (s .room .slots) (reserve s)) no) in
+    let c = live-and-free g (insert s d u v (l ∷ ls)) o in
+    let k : s .room .slots ≡ g .room .slots = ap (λ (z : Given). z .room .slots) is in
+    let f = ap length e in
+    let live : liveLinks (insert s d u v (l ∷ ls)) ≡ total (λ k. one (insert s d u v (l ∷ ls) .live k)) (g .room .slots) = ap (total (λ k. one (insert s d u v (l ∷ ls) .live k))) k in
+    let same : reserve (insert s d u v (l ∷ ls)) ≡ reserve s = refl in
+    (omega arith, omega arith)

@@ -11,7 +11,7 @@ use lib.ListN.{length, length-append}
 use borrow.Author.Tests.{eqb-true, eqb-false}
 use Rattle.primitive.specs.declared.flags.Named.{Named}
 use Rattle.formula.specs.Trees.{Tree}
-use Rattle.meaning.specs.State.{St, Kind, effect, Row, readable, deps, f1, f2, f6, raised, up}
+use Rattle.meaning.specs.State.{St, Kind, effect, Row, readable, rank, deps, f1, f2, f6, raised, up}
 use Rattle.meaning.specs.Setters.{setFl, withCycle, withQueue}
 use Rattle.meaning.specs.Links.{rewind, purge}
 use Rattle.meaning.specs.Reads.{Out, evalBy, readW, fresh, settle, check, evaluate}
@@ -19,8 +19,8 @@ use Rattle.meaning.specs.Marks.{isEffect}
 use Rattle.meaning.specs.Engine.{logged, rerun, run, flushOn}
 use Rattle.meaning.specs.Reserve.{reserveOf, ownedLink}
 use Rattle.meaning.specs.WellFormed.{In, Once, readLinks, EffectFlags, watching, pushed, pending, dirty}
-use Rattle.meaning.proofs.Laws.{clash, false≢true, either, branch, up-same, up-other, in-left}
-use Rattle.meaning.proofs.Members.{append-is-nil, reads-few, reads-agree}
+use Rattle.meaning.proofs.Laws.{clash, false≢true, either, none-some, branch, up-same, up-other, in-left}
+use Rattle.meaning.proofs.Members.{append-is-nil, nil-none, reads-few, reads-agree}
 use Rattle.meaning.proofs.Rings.{purge-ring, evaluate-ring, check-ring}
 use Rattle.meaning.proofs.Still.{Given, Fixed, Still, drops-still, renews-still}
 use Rattle.meaning.proofs.Flush.{run-queues-nothing, rerun-row}
@@ -41,10 +41,10 @@ queue-still : (s t : St) → Still s t → t .queue ≡ s .queue
 queue-still s t p = ap (λ (f : Fixed). f .queue) (p .same)
 
 module _ (g : Given) (st : Static g) where
-  size-is : (X : Set) (s : St) → Inside g X s → s .size ≡ g .size
+  pub size-is : (X : Set) (s : St) → Inside g X s → s .size ≡ g .size
   size-is X s i = ap (λ (z : Given). z .size) (i .same)
 
-  nobody-open : (s : St) → Open g st nobody s
+  pub nobody-open : (s : St) → Open g st nobody s
   nobody-open s = record { known = λ n. inr (λ x. x); pays = λ n h x. absurd x }
 
   -- ---- a read
@@ -59,7 +59,15 @@ module _ (g : Given) (st : Static g) where
   read-reads s n i h r e k =
       let z = size-is nobody s i in
       let w = settle-inside g st (s .size) (fresh (s .size)) (fresh-inside g st (s .size)) nobody s n i (nobody-open s) h r (λ m x q. absurd x) (omega arith) in
-      frame-reads g st nobody (Low g (suc n)) (suc n) s (settle s n) e i (w .frame) (λ p. clash (ap isEffect k) (ap isEffect (p .0)))
+      frame-reads g st nobody (Low g (suc (rank n))) (suc n) s (settle s n) e i (w .frame) (λ p. clash (ap isEffect k) (ap isEffect (p .0)))
+
+  -- who has read links only has lost what it owned
+  pub owned-gone : (t : St) → Inside g nobody t → (e : ℕ) → ((l : ℕ) → In l (deps t e) → readable (g .kind (t .dep l)) ≡ true) → (y : ℕ) → y < g .size → g .owner y ≡ some e → t .gone y ≡ true
+  owned-gone t i e all y h q = either (t .gone y) (λ a. a) (λ a.
+      let x = i .rests y h (λ z. z) .owned e a q in
+      let lv = i .lists .subs-live (x .0) y (subst (In (x .0)) (sym (x .1)) (inl refl)) in
+      let j = subst (λ (z : ℕ). In (x .0) (deps t z)) (x .2) (i .lists .live-in-deps (x .0) (lv .0)) in
+      none-some (sym (st .owner-kind y h (ap (λ (z : ℕ). readable (g .kind z)) (sym (lv .1)) ∙ all (x .0) j)) ∙ q))
 
   -- ---- an effect e under way: its owner's link, and its own links
   pub record Owns (s : St) (e : ℕ) : Type 0 where
@@ -97,7 +105,7 @@ module _ (g : Given) (st : Static g) where
           queued = λ j a. clash a (w .alive);
         }
 
-    run-above : (m : ℕ) → Run e m → readable (g .kind m) ≡ true → e ≤ m
+    pub run-above : (m : ℕ) → Run e m → readable (g .kind m) ≡ true → rank e ≤ rank m
     run-above m (inr q) r = clash r (ap (λ (z : ℕ). readable (g .kind z)) q ∙ re)
 
     run-known : (m : ℕ) → Run e m ⊎ (Run e m → ⊥)
@@ -137,15 +145,20 @@ module _ (g : Given) (st : Static g) where
     abbrev Others : St → St → Type 0
     Others s t = (m : ℕ) → m < g .size → g .kind m ≡ effect → (m ≡ e → ⊥) → t .gone m ≡ false → SameReads (g .kind) s t m
 
+    -- what e owns is gone
+    abbrev Disposed : St → Type 0
+    Disposed t = (y : ℕ) → y < g .size → g .owner y ≡ some e → t .gone y ≡ true
+
     -- ---- the run itself, from s₁, where e has flags 6 and its cursor before its first link
-    module _ (s s₁ : St) (i : Inside g (Run e) s) (l : Owns s e) (i₁ : Inside g (Run e) s₁) (f₁ : Frame g (Near g st e) e s s₁) (empty : s₁ .done e ≡ []) (left : length (readLinks (g .kind) (s₁ .dep) (s₁ .rest e)) ≤ reads-of g st e) where
-      begin : During g st (Run e) e s₁ 0 s₁
+    module _ (s s₁ : St) (i : Inside g (Run e) s) (l : Owns s e) (i₁ : Inside g (Run e) s₁) (f₁ : Frame g (Near g st e) (rank e) s s₁) (empty : s₁ .done e ≡ []) (left : length (readLinks (g .kind) (s₁ .dep) (s₁ .rest e)) ≤ reads-of g st e) where
+      pub begin : During g st (Run e) e s₁ 0 s₁
       begin =
           let z = ap length empty in
           record {
             inside = i₁;
             frame = frame-same g (Near g st e) e s₁;
             few = omega arith;
+            reads = λ l j. absurd (nil-none (s₁ .done e) l empty j);
             left = left;
             spare = spare;
             tail = λ q. q;
@@ -178,7 +191,7 @@ module _ (g : Given) (st : Static g) where
           subst (λ (j : ℕ). During g st (Run e) e s₁ j (o .st)) z
           (eval-during g st (Run e) e (inr refl) he run-above s₁ i₁ K (fresh K) (fresh-inside g st K) (omega arith) (g .form e) (λ m z. z) 0 s₁ (omega arith) begin)
 
-      f-went : Frame g (Near g st e) e s (o .st)
+      pub f-went : Frame g (Near g st e) (rank e) s (o .st)
       f-went = frame-then g (Near g st e) e s s₁ (o .st) (i .lists) (i₁ .lists) f₁ (went .frame)
 
       owns-went : Owns (o .st) e
@@ -190,7 +203,7 @@ module _ (g : Given) (st : Static g) where
       abbrev ended : St
       ended = setFl (logged o e) e f2
 
-      i-ended : Inside g (Run e) ended
+      pub i-ended : Inside g (Run e) ended
       unfolding logged
       i-ended = flags-inside g (Run e) (logged o e) e (others g (Run e) (o .st) (went .inside) (o .st .cycle) (o .st .sto) (o .st .pend) (o .st .depth) (logged o e .log) (o .st .stuck)) (inr refl) f2 (λ q. false≢true q)
 
@@ -219,7 +232,7 @@ module _ (g : Given) (st : Static g) where
       unfolding logged
       first-reads m k ne = let r = went-reads m k ne in record { links = r .links; ends = r .ends }
 
-      later-run : (In e (s₁ .queue) → ⊥) → Goes-on g nobody s (purge ended e) × Others s (purge ended e)
+      later-run : (In e (s₁ .queue) → ⊥) → Goes-on g nobody s (purge ended e) × Others s (purge ended e) × Disposed (purge ended e)
       unfolding logged
       later-run nq =
           let p = purge-inside g st (Run e) ended e i-ended (inr refl) apart in
@@ -233,14 +246,14 @@ module _ (g : Given) (st : Static g) where
             alive = d .flags e outside .1 ∙ owns-went .alive;
           } in
           let few : length (readLinks (g .kind) (t .dep) (t .done e)) ≤ reads-of g st e =
-          let a = reads-few (g .kind) (t .dep) (t .done e) in let b = went .few in let c = ap (λ (x : List ℕ). length x) (p .done) in omega arith in (
-            record {
-              inside = let-out g nobody t e (p .inside)
-                  (lies-rests t (record { owns = own; tail = p .rest; few = few })
-                  (λ j. nq (subst (In e) (queue-still ended t (purge-ring Still drops-still ended e) ∙ queue-went) j)) (d .flags e outside .0 ∙ up-same (o .st .fl) e f2));
-              stuck = d .stuck ∙ f-went .stuck;
-            },
+          let a = reads-few (g .kind) (t .dep) (t .done e) in let b = went .few in let c = ap (λ (x : List ℕ). length x) (p .done) in omega arith in
+          let it : Inside g nobody t = let-out g nobody t e (p .inside)
+          (lies-rests t (record { owns = own; tail = p .rest; few = few })
+          (λ j. nq (subst (In e) (queue-still ended t (purge-ring Still drops-still ended e) ∙ queue-went) j)) (d .flags e outside .0 ∙ up-same (o .st .fl) e f2)) in
+          let all : deps t e ≡ o .st .done e = ap₂ (λ (x y : List ℕ). x ++ y) (p .done) (p .rest) ∙ append-nil (o .st .done e) in (
+            record { inside = it; stuck = d .stuck ∙ f-went .stuck },
             λ m h k ne a. reads-then (g .kind) s ended t m (first-reads m k ne) (purge-reads g st (Run e) ended t e m p h k (off m ne) ne a),
+            owned-gone t it e (λ l j. ap (λ (z : ℕ → ℕ). readable (g .kind (z l))) (d .dep) ∙ went .reads l (subst (In l) all j)),
           )
         where
           off : (m : ℕ) → (m ≡ e → ⊥) → Run e m → ⊥
@@ -249,20 +262,20 @@ module _ (g : Given) (st : Static g) where
           apart : (m : ℕ) → Under g e m × (m ≡ e → ⊥) → Run e m → ⊥
           apart m p (inr q) = p .1 q
 
-    rerun-inside : (s : St) → Inside g (Run e) s → Lies s e → s .fl e .pending ≡ true → (In e (s .queue) → ⊥) → Goes-on g nobody s (rerun s e) × Others s (rerun s e)
+    rerun-inside : (s : St) → Inside g (Run e) s → Lies s e → s .fl e .pending ≡ true → (In e (s .queue) → ⊥) → Goes-on g nobody s (rerun s e) × Others s (rerun s e) × Disposed (rerun s e)
     unfolding rerun
     rerun-inside s i l pd nq =
         let c = withCycle s (raised (s .cycle)) in
         let s₁ = setFl (rewind c e) e f6 in
         let ic : Inside g (Run e) c = others g (Run e) s i (raised (s .cycle)) (s .sto) (s .pend) (s .depth) (s .log) (s .stuck) in
         let i₁ : Inside g (Run e) s₁ = flags-inside g (Run e) (rewind c e) e (rewind-inside g (Run e) c e ic (inr refl)) (inr refl) f6 (λ q. false≢true q) in
-        let f₁ : Frame g (Near g st e) e s s₁ = frame-flags g (Near g st e) e s s₁ refl refl refl refl refl refl
+        let f₁ : Frame g (Near g st e) (rank e) s s₁ = frame-flags g (Near g st e) e s s₁ refl refl refl refl refl refl
         (λ m z. (up-other (s .done) e [] m (λ q. z (inr q)), up-other (s .rest) e (s .done e ++ s .rest e) m (λ q. z (inr q))))
         (λ m z q. up-other (s .fl) e f6 m (λ x. z (inr x)))
         (λ m q. kept m q) in
         let all : s₁ .rest e ≡ s .done e = up-same (s .rest) e (s .done e ++ s .rest e) ∙ ap (λ (x : List ℕ). s .done e ++ x) (l .tail) ∙ append-nil (s .done e) in
         let few : length (readLinks (g .kind) (s .dep) (s₁ .rest e)) ≤ reads-of g st e = subst (λ (x : List ℕ). length (readLinks (g .kind) (s .dep) x) ≤ reads-of g st e) (sym all) (l .few) in
-        subst (λ (t : Tree). let x = purge (setFl (logged (evalBy (readW (fresh (s .size)) e) t s₁) e) e f2) e in Goes-on g nobody s x × Others s x) (sym (ap (λ (z : Given). z .form e) (i .same)))
+        subst (λ (t : Tree). let x = purge (setFl (logged (evalBy (readW (fresh (s .size)) e) t s₁) e) e f2) e in Goes-on g nobody s x × Others s x × Disposed x) (sym (ap (λ (z : Given). z .form e) (i .same)))
         (later-run s s₁ i (l .owns) i₁ f₁ (up-same (s .done) e []) few nq)
       where
         kept : (m : ℕ) → s .fl m ≡ f1 → up (s .fl) e f6 m ≡ f1
@@ -276,7 +289,7 @@ module _ (g : Given) (st : Static g) where
       ones : Once (e ∷ q)
       ones = subst Once is (i .once)
 
-      popped : Inside g (Run e) s′
+      pub popped : Inside g (Run e) s′
       popped = record {
         same = i .same;
         lists = i .lists;
@@ -320,17 +333,24 @@ module _ (g : Given) (st : Static g) where
             queued = λ j a. r .queued (in-all n j) a;
           }
 
-      was : Rests g s e
+      pub was : Rests g s e
       was = i .rests e he (λ z. z)
 
-      lies : s .gone e ≡ false → Lies s′ e
+      pub lies : s .gone e ≡ false → Lies s′ e
       lies a = record { owns = record { owned = λ o z. was .owned o a z; unowned = λ z. was .unowned re z; alive = a }; tail = was .tail; few = was .few }
 
-      -- well-formed and not stuck; effects that are still live keep their read links, but for e if it has a row
+      pub popped-open : Open g st (Run e) s′
+      popped-open = record { known = run-known; pays = λ n h x. at n x }
+        where
+          at : (n : ℕ) → Run e n → Paid g s′ n
+          at n (inr z) = subst (Paid g s′) (sym z) (record { enough = rests-paid g st nobody s e i he was .enough })
+
+      -- well-formed and not stuck; effects that are still live keep their read links, but for e if it has a row, and then what it owned is gone
       pub record RunOn (t : St) : Type 0 where
         pub inside : Inside g nobody t
         pub stuck : t .stuck ≡ s .stuck
         pub reads : (m : ℕ) → m < g .size → g .kind m ≡ effect → t .gone m ≡ false → SameReads (g .kind) s t m ⊎ ((m ≡ e) × (t .log ≡ s .log → ⊥))
+        pub disposed : (t .log ≡ s .log → ⊥) → Disposed t
 
       has-row : (t : St) → t .log ≡ s .log → rerun t e .log ≡ s .log → ⊥
       has-row t q z =
@@ -340,11 +360,12 @@ module _ (g : Given) (st : Static g) where
           let c = ap (λ (x : List Row). length x) q in
           omega arith
 
-      rerun-on : (t : St) → t .log ≡ s .log → t .stuck ≡ s .stuck → ((m : ℕ) → g .kind m ≡ effect → SameReads (g .kind) s t m) → Goes-on g nobody t (rerun t e) × Others t (rerun t e) → RunOn (rerun t e)
+      rerun-on : (t : St) → t .log ≡ s .log → t .stuck ≡ s .stuck → ((m : ℕ) → g .kind m ≡ effect → SameReads (g .kind) s t m) → Goes-on g nobody t (rerun t e) × Others t (rerun t e) × Disposed (rerun t e) → RunOn (rerun t e)
       rerun-on t q k same w = record {
         inside = w .0 .inside;
         stuck = w .0 .stuck ∙ k;
         reads = λ m h z a. either (eqb m e) (λ y. inr (eqb-true m e y, has-row t q)) (λ y. inl (reads-then (g .kind) s t (rerun t e) m (same m z) (w .1 m h z (eqb-false m e y) a)));
+        disposed = λ z. w .2;
       }
 
       -- it does not run
@@ -352,7 +373,7 @@ module _ (g : Given) (st : Static g) where
       calmed c =
           let t = setFl s′ e f2 in
           let it : Inside g (Run e) t = flags-inside g (Run e) s′ e popped (inr refl) f2 (λ z. false≢true z) in
-          record { inside = let-out g nobody t e it (at c); stuck = refl; reads = λ m h k a. inl (record { links = refl; ends = λ l j. refl }) }
+          record { inside = let-out g nobody t e it (at c); stuck = refl; reads = λ m h k a. inl (record { links = refl; ends = λ l j. refl }); disposed = λ z. absurd (z refl) }
         where
           at : (s .gone e ≡ true) ⊎ (s .gone e ≡ false) → Rests g (setFl s′ e f2) e
           at (inl a) = record {
@@ -371,37 +392,30 @@ module _ (g : Given) (st : Static g) where
           at (inr a) = let l = lies a in lies-rests (setFl s′ e f2) (record { owns = record { owned = l .owns .owned; unowned = l .owns .unowned; alive = a }; tail = l .tail; few = l .few }) (ones .0) (up-same (s .fl) e f2)
 
       module _ (a : s .gone e ≡ false) (reads : readLinks (g .kind) (s .dep) (s .done e) ≡ [] → ⊥) (pd : s .fl e .pending ≡ true) where
-        has-deps : deps s′ e ≡ [] → ⊥
+        pub has-deps : deps s′ e ≡ [] → ⊥
         unfolding readLinks
         has-deps z = reads (ap (readLinks (g .kind) (s .dep)) (append-is-nil (s .done e) (s .rest e) z .0))
 
-        run-apart : (d : ℕ) → d < g .size → Goes g d e → Run e d → ⊥
+        pub run-apart : (d : ℕ) → d < g .size → Goes g d e → Run e d → ⊥
         run-apart d hd gd (inr z) = never-back g st d e hd gd (subst (Under g d) z (under-same g st d))
 
-        checked : Checked g st (s′ .size) (fresh (s′ .size)) (fresh-inside g st (s′ .size)) (Run e) s′ e (check s′ e)
+        pub checked : Checked g st (s′ .size) (fresh (s′ .size)) (fresh-inside g st (s′ .size)) (Run e) s′ e (check s′ e)
         checked =
             let k = size-is (Run e) s′ popped in
-            check-inside g st (s′ .size) (fresh (s′ .size)) (fresh-inside g st (s′ .size)) (Run e) e he (omega arith) run-above run-apart s′ popped
-            (record { known = run-known; pays = λ n h x. at n x }) has-deps
-          where
-            at : (n : ℕ) → Run e n → Paid g s′ n
-            at n (inr z) = subst (Paid g s′) (sym z) (rests-paid′)
-              where
-                rests-paid′ : Paid g s′ e
-                rests-paid′ = record { enough = rests-paid g st nobody s e i he was .enough }
+            check-inside g st (s′ .size) (fresh (s′ .size)) (fresh-inside g st (s′ .size)) (Run e) e he (omega arith) run-above run-apart s′ popped popped-open has-deps
 
-        e-far : Low g e e → ⊥
+        e-far : Low g (rank e) e → ⊥
         e-far p = let z = p .1 in omega arith
 
-        wide : Frame g (Near g st e) e s′ (check s′ e .st)
-        wide = frame-wider g (Low g e) (Near g st e) e e s′ (check s′ e .st) (λ m p. inl p) (omega arith) (checked .frame)
+        wide : Frame g (Near g st e) (rank e) s′ (check s′ e .st)
+        wide = frame-wider g (Low g (rank e)) (Near g st e) e e s′ (check s′ e .st) (λ m p. inl p) (omega arith) (checked .frame)
 
-        lies-checked : Lies (check s′ e .st) e
+        pub lies-checked : Lies (check s′ e .st) e
         lies-checked =
             let t = check s′ e .st in
             let f = checked .frame .lists e e-far in
             let ends : readLinks (g .kind) (t .dep) (s .done e) ≡ readLinks (g .kind) (s .dep) (s .done e) =
-            reads-agree (g .kind) (s .dep) (t .dep) (s .done e) (λ l z. let x = i .lists .deps-live l e (in-left l (s .done e) (s .rest e) z) in checked .frame .links l (x .0) (λ p. e-far (subst (Low g e) (x .1) p)) .1) in
+            reads-agree (g .kind) (s .dep) (t .dep) (s .done e) (λ l z. let x = i .lists .deps-live l e (in-left l (s .done e) (s .rest e) z) in checked .frame .links l (x .0) (λ p. e-far (subst (Low g (rank e)) (x .1) p)) .1) in
             record {
               owns = owns-moves (Run e) e s′ t popped wide (lies a .owns);
               tail = f .1 ∙ was .tail;
@@ -412,7 +426,7 @@ module _ (g : Given) (st : Static g) where
         not-queued j = ones .0 (subst (In e) (queue-still s′ (check s′ e .st) (check-ring Still renews-still s′ e)) j)
 
         checked-reads : (m : ℕ) → g .kind m ≡ effect → SameReads (g .kind) s (check s′ e .st) m
-        checked-reads m k = let r = frame-reads g st (Run e) (Low g e) e s′ (check s′ e .st) m popped (checked .frame) (λ p. clash (ap isEffect k) (ap isEffect (p .0))) in record { links = r .links; ends = r .ends }
+        checked-reads m k = let r = frame-reads g st (Run e) (Low g (rank e)) e s′ (check s′ e .st) m popped (checked .frame) (λ p. clash (ap isEffect k) (ap isEffect (p .0))) in record { links = r .links; ends = r .ends }
 
         checked-run : RunOn (elim (check s′ e .yes) [ true ↦ rerun (check s′ e .st) e | false ↦ setFl (check s′ e .st) e f2 ])
         checked-run =
@@ -429,6 +443,7 @@ module _ (g : Given) (st : Static g) where
                   (lies-rests x (record { owns = record { owned = l .owns .owned; unowned = l .owns .unowned; alive = l .owns .alive }; tail = l .tail; few = l .few }) not-queued (up-same (t .fl) e f2));
               stuck = checked .frame .stuck;
               reads = λ m h k a. inl (let r = checked-reads m k in record { links = r .links; ends = r .ends });
+              disposed = λ z. absurd (z (ap (λ (f : Fixed). f .log) (check-ring Still renews-still s′ e .same)));
             })
 
       pub run-inside : RunOn (run s′ e)

@@ -1,7 +1,7 @@
 -- Stuck: where an operation cannot go on it says so, and what is stuck stays stuck. So "not stuck after a command" says that nothing in it was. Assumes nothing.
-use mathlib.Core.Path.{_≡_, refl}
-use mathlib.Core.Bool.{Bool, true, false, not}
-use mathlib.Core.List.{List, [], _∷_, _++_}
+use mathlib.Core.Path.{_≡_, refl, ap}
+use mathlib.Core.Bool.{Bool, true, false, not, _&&_}
+use mathlib.Core.List.{List, [], _∷_, _++_, reverse}
 use mathlib.Core.Option.{Option, none, some}
 use Prim.Native.Nat.{ℕ, zero, suc, _+_}
 use lib.Dec.{leb, ltb}
@@ -13,7 +13,7 @@ use Rattle.meaning.specs.State.{St, effect, scope, f6, f17, nothing, unc
 use Rattle.meaning.specs.Setters.{withDepth, withLog, setFl, setPend}
 use Rattle.meaning.specs.Links.{isNil, several, headOf, lastOf, goesTo, isFrom, renew, spent, insert, link, cut, unlinkN}
 use Rattle.meaning.specs.Marks.{Marks, marksOf, halt, chain, effects, notify, mark, stackFull, prop, turns, propagate, wakes, shallow}
-use Rattle.meaning.specs.Reads.{Ans, updW, checkW, fresh}
+use Rattle.meaning.specs.Reads.{Ans, updW, sameSlots, steady, checkW, fresh}
 use Rattle.meaning.specs.Engine.{logged, flushOn, flushAt, store, node, owned, newSignal, newComputed, newScope, newEffect, endAt}
 use Rattle.meaning.specs.Words.{Command, makeSignal, makeComputed, makeEffect, makeScope, setTo, addTo, readOf, disposeOf, batchStart, batchEnd, commandOf, nodeOf, ownerOf, formulaOf}
 use Rattle.meaning.specs.Refusals.{sightOf, refusal}
@@ -52,6 +52,16 @@ recursed-branch s k m l w st h = branch (λ (x : Marks). x .stuck ≡ true) (rec
 pub queue-full : (s : St) (m : Marks) (e : ℕ) → ltb (s .room .nodes) (length (notify s m e .queue)) ≡ true → notify s m e .stuck ≡ true
 unfolding notify
 queue-full s m e h = or-last (m .stuck) _ (or-first _ (not (effects (s .kind) (chain (s .room .nodes) (s .owner) (m .fl) e))) h)
+
+-- what would be pushed is no effect
+pub no-effect : (s : St) (m : Marks) (e : ℕ) → effects (s .kind) (chain (s .room .nodes) (s .owner) (m .fl) e) ≡ false → notify s m e .stuck ≡ true
+unfolding notify
+no-effect s m e h = or-last (m .stuck) _ (or-last (ltb (s .room .nodes) (length (m .queue ++ reverse (chain (s .room .nodes) (s .owner) (m .fl) e)))) _ (ap not h))
+
+-- the subscriber list that the dirty check goes back up by has changed, or is empty
+pub not-steady : (was : List ℕ) (t : St) (d : ℕ) → sameSlots was (t .subs d) && not (isNil was) ≡ false → steady was t d .stuck ≡ true
+unfolding steady
+not-steady was t d h = branch (λ (x : St). x .stuck ≡ true) (sameSlots was (t .subs d) && not (isNil was)) (λ e. clash e h) (λ e. refl)
 
 -- a panic of the Rust: an update of what is no signal and no computed; a check with no dependencies
 pub no-update : (fr : St → ℕ → Ans) (s : St) (n : ℕ) → (updW fr effect s n .st .stuck ≡ true) × (updW fr scope s n .st .stuck ≡ true)
@@ -138,6 +148,21 @@ prop-sticks s (suc k) m (l ∷ w) st h =
     (λ d. prop-sticks s k (mark s m u) (s .subs u ++ w) st p))
     (λ c. prop-sticks s k (mark s m u) w st p)))
 
+-- the stack is full where another list would be put aside
+pub stack-full : (s : St) (k : ℕ) (m : Marks) (l : ℕ) (w : List ℕ) (st : List (List ℕ)) → unclean (m .fl (s .sub l)) ≡ false → m .fl (s .sub l) .mutable ≡ true → several (s .subs (s .sub l)) ≡ true
+    → stackFull s st ≡ true → prop s (suc k) m (l ∷ w) st .stuck ≡ true
+unfolding prop
+stack-full s k m l w st cl mu sv h =
+    let u = s .sub l in
+    let P : Marks → Type 0 = λ x. x .stuck ≡ true in
+    branch P (recursing (m .fl u)) (λ a. or-last (m .stuck) true refl)
+    (λ a. branch P (unclean (m .fl u)) (λ b. clash b cl)
+    (λ b. branch P (m .fl u .mutable)
+    (λ c. branch P (several (s .subs u))
+    (λ d. prop-sticks s k (halt (mark s m u) (stackFull s st)) (s .subs u) (w ∷ st) (or-last (mark s m u .stuck) _ h))
+    (λ d. clash sv d))
+    (λ c. clash mu c)))
+
 store-sticks : (s : St) (n : ℕ) (v : Value) → Sticks s (store s n v)
 unfolding store
 store-sticks s n v =
@@ -152,7 +177,7 @@ store-sticks s n v =
     at p (suc d) = λ e. e
 
 end-sticks : (s : St) (d : ℕ) → Sticks s (endAt s d)
-end-sticks s zero = λ e. e
+end-sticks s zero = λ e. refl
 end-sticks s (suc zero) = λ e. flush-sticks (s .queue) (withDepth s 0) e
 end-sticks s (suc (suc d)) = λ e. e
 

@@ -8,12 +8,12 @@ use Rattle.meaning.specs.Links.{remove, each, renew, spent, insert, link
 use Rattle.meaning.specs.Marks.{chain, calm, effects, notify, mark, prop, soil, wakes}
 use Rattle.meaning.specs.Reads.{evalBy, settleW, firstW, updComputed, updSignal, updW, sameSlots, steady, checkOn, checkW, pendingW, freshW, fresh}
 use Rattle.meaning.specs.Engine.{logged, rerun, run, flushOn, store, tallest, newSignal, newComputed, newScope, newEffect}
-use Rattle.meaning.specs.Words.{noWord, oneWord, twoWords, wholeCells, wordAndCells, codes as commands, commandOf, after, grown, parse, alone, treeOf}
+use Rattle.meaning.specs.Words.{word, noWord, wholeCells, codes as commands, commandOf, after, grown, parse, treeOf}
 use Rattle.meaning.specs.Reserve.{total, reserve}
 use Rattle.meaning.specs.Refusals.{liveEffects, asksOf, isA, unknown, wrongNode, goneNode, allReadable, badFormula, tooHigh, noRoom, wrongDepth, fewRows, table as refusals, first, refusal}
-use Rattle.meaning.specs.Commands.{perform, performAny, answer, command, shown, answers, afterAll}
-use Rattle.meaning.specs.Cases.{table, ends, Holds}
+use Rattle.meaning.specs.Commands.{perform, performAny, answer, command}
+use Rattle.meaning.specs.Cases.{shown, answers, afterAll, table, ends, Holds}
 
 pub all-cases : Holds table
-unfolding sum difference minimum maximum less clamp same sameNumber isZero cellOf codes readOf bareOf apply written size names up below empty remove each renew spent insert link cut lastLink disposeW unwatchedW unlinkN chain calm effects notify mark prop soil wakes evalBy settleW firstW updComputed updSignal updW sameSlots steady checkOn checkW pendingW freshW fresh logged rerun run flushOn store tallest newSignal newComputed newScope newEffect noWord oneWord twoWords wholeCells wordAndCells commands commandOf after grown parse alone treeOf total reserve liveEffects asksOf isA unknown wrongNode goneNode allReadable badFormula tooHigh noRoom wrongDepth fewRows refusals first refusal perform performAny answer command shown answers afterAll ends Holds
+unfolding sum difference minimum maximum less clamp same sameNumber isZero cellOf codes readOf bareOf apply written size names up below empty remove each renew spent insert link cut lastLink disposeW unwatchedW unlinkN chain calm effects notify mark prop soil wakes evalBy settleW firstW updComputed updSignal updW sameSlots steady checkOn checkW pendingW freshW fresh logged rerun run flushOn store tallest newSignal newComputed newScope newEffect noWord word wholeCells commands commandOf after grown parse treeOf total reserve liveEffects asksOf isA unknown wrongNode goneNode allReadable badFormula tooHigh noRoom wrongDepth fewRows refusals first refusal perform performAny answer command shown answers afterAll ends Holds
 all-cases = (refl, (refl, (refl, (refl, (refl, (refl, (refl, (refl, (refl, (refl, (refl, (refl, (refl, refl)))))))))))))

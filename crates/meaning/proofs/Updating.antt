@@ -11,7 +11,7 @@ use borrow.Author.Tests.{eq-eqb, eqb-true, eqb-false}
 use Rattle.primitive.specs.declared.flags.Named.{Named}
 use Rattle.primitive.specs.Values.{same}
 use Rattle.formula.specs.Trees.{Tree}
-use Rattle.meaning.specs.State.{St, Kind, signal, computed, effect, scope, readable, deps, bare, f0, f1, f5, f17, withPending, raised, up}
+use Rattle.meaning.specs.State.{St, Kind, signal, computed, effect, scope, readable, rank, deps, bare, f0, f1, f5, f17, withPending, raised, up}
 use Rattle.meaning.specs.Setters.{setFl, setSto, withCycle}
 use Rattle.meaning.specs.Links.{isNil, several, rewind, purge}
 use Rattle.meaning.specs.Marks.{shallow}
@@ -33,7 +33,7 @@ unfolding sameSlots
 same-slots [] = refl
 same-slots (x ∷ xs) = rw (eq-eqb x x refl, sameSlots, same-slots xs)
 
-steady-same : (was : List ℕ) (t : St) (d : ℕ) → t .subs d ≡ was → (was ≡ [] → ⊥) → steady was t d ≡ t
+pub steady-same : (was : List ℕ) (t : St) (d : ℕ) → t .subs d ≡ was → (was ≡ [] → ⊥) → steady was t d ≡ t
 unfolding steady
 steady-same was t d e h =
     branch (λ (x : St). x ≡ t) (sameSlots was (t .subs d) && not (isNil was)) (λ q. refl)
@@ -45,6 +45,14 @@ steady-same was t d e h =
     full : (xs : List ℕ) → (xs ≡ [] → ⊥) → not (isNil xs) ≡ true
     full [] k = absurd (k refl)
     full (x ∷ xs) k = refl
+
+-- a computed that is pending and not dirty, without PENDING
+pub cleared : (f : Named) (links subs : List ℕ) → f .pending ≡ true → f .dirty ≡ false → ComputedFlags f links subs → withPending f false ≡ f1
+cleared f links subs p q (never e x y) = clash p (ap (λ (z : Named). z .pending) e)
+cleared f links subs p q (clean e) = clash p (ap (λ (z : Named). z .pending) e)
+cleared f links subs p q (stale e x) = clash p (ap (λ (z : Named). z .pending) e)
+cleared f links subs p q (maybe e x) = ap (λ (z : Named). withPending z false) e
+cleared f links subs p q (dirty e x) = clash (ap (λ (z : Named). z .dirty) e) q
 
 module _ (g : Given) (st : Static g) where
   also-known : (X : Set) (n : ℕ) → ((m : ℕ) → X m ⊎ (X m → ⊥)) → (m : ℕ) → also X n m ⊎ (also X n m → ⊥)
@@ -60,25 +68,26 @@ module _ (g : Given) (st : Static g) where
 
   module _ (k : ℕ) (fr : St → ℕ → Ans) (frs : Freshens g st k fr) where
     -- ---- the evaluation of a computed n, from s where it is at rest, with its flags 5 in s₁, to where its value is in
-    module _ (X : Set) (s s₁ : St) (n : ℕ) (i : Inside g X s) (o : Open g st X s) (h : n < g .size) (kn : g .kind n ≡ computed) (ab : Above g st X n) (le : n ≤ k)
-        (i₁ : Inside g (also X n) s₁) (f₁ : Frame g (Low g (suc n)) n s s₁) (empty : s₁ .done n ≡ []) (left : length (readLinks (g .kind) (s₁ .dep) (s₁ .rest n)) ≤ reads-of g st n) where
+    module _ (X : Set) (s s₁ : St) (n : ℕ) (i : Inside g X s) (o : Open g st X s) (h : n < g .size) (kn : g .kind n ≡ computed) (ab : Above g st X n) (le : rank n ≤ k)
+        (i₁ : Inside g (also X n) s₁) (f₁ : Frame g (Low g (suc (rank n))) (rank n) s s₁) (empty : s₁ .done n ≡ []) (left : length (readLinks (g .kind) (s₁ .dep) (s₁ .rest n)) ≤ reads-of g st n) where
       rn : readable (g .kind n) ≡ true
       rn = ap readable kn
 
-      above : (m : ℕ) → also X n m → readable (g .kind m) ≡ true → n ≤ m
+      above : (m : ℕ) → also X n m → readable (g .kind m) ≡ true → rank n ≤ rank m
       above m (inl x) r = let a = ab m x r in omega arith
       above m (inr q) r = omega arith
 
-      far : (m : ℕ) → X m → Low g (suc n) m → ⊥
+      far : (m : ℕ) → X m → Low g (suc (rank n)) m → ⊥
       far m x p = let a = ab m x (ap readable (p .0)) in let b = p .1 in omega arith
 
-      begin : During g st (also X n) n s₁ 0 s₁
+      pub begin : During g st (also X n) n s₁ 0 s₁
       begin =
           let z = ap length empty in
           record {
             inside = i₁;
             frame = frame-same g (Near g st n) n s₁;
             few = omega arith;
+            reads = λ l j. absurd (nil-none (s₁ .done n) l empty j);
             left = left;
             spare = spare (g .kind n) refl kn;
             tail = λ q. q;
@@ -93,7 +102,7 @@ module _ (g : Given) (st : Static g) where
           spare scope e q = clash (ap readable q) (ap readable e)
 
           pays : (m : ℕ) → m < g .size → (m ≡ n → ⊥) → also X n m → Paid g s₁ m
-          pays m l q (inl x) = paid-frame g st (also X n) (Low g (suc n)) n s s₁ m (widen g X (also X n) s (λ y z. inl z) i) i₁ f₁ l (far m x) (o .pays m l x)
+          pays m l q (inl x) = paid-frame g st (also X n) (Low g (suc (rank n))) n s s₁ m (widen g X (also X n) s (λ y z. inl z) i) i₁ f₁ l (far m x) (o .pays m l x)
           pays m l q (inr e) = absurd (q e)
 
       abbrev out : Out
@@ -107,25 +116,27 @@ module _ (g : Given) (st : Static g) where
       abbrev stored : St
       stored = setFl (setSto (out .st) n (out .val)) n f1
 
-      i-stored : Inside g (also X n) stored
+      pub i-stored : Inside g (also X n) stored
       i-stored = flags-inside g (also X n) (setSto (out .st) n (out .val)) n (others g (also X n) (out .st) (went .inside) (out .st .cycle) (up (out .st .sto) n (out .val)) (out .st .pend) (out .st .depth) (out .st .log) (out .st .stuck)) (inr refl) f1 (λ q. refl)
+
+      pub f-evaluated : Frame g (Low g (suc (rank n))) (rank n) s (out .st)
+      f-evaluated = frame-then g (Low g (suc (rank n))) n s s₁ (out .st) (i .lists) (i₁ .lists) f₁ (frame-wider g (Near g st n) (Low g (suc (rank n))) n n s₁ (out .st) near (omega arith) (went .frame))
+        where
+          near : (m : ℕ) → Near g st n m → Low g (suc (rank n)) m
+          near m (inl p) = let a = p .1 in (p .0, omega arith)
+          near m (inr q) = (ap (g .kind) q ∙ kn, omega arith)
 
       f-stored : Frame g (Low g (suc n)) n s stored
       f-stored =
-          let a : Frame g (Low g (suc n)) n s₁ (out .st) = frame-wider g (Near g st n) (Low g (suc n)) n n s₁ (out .st) near (omega arith) (went .frame) in
           let b : Frame g (Low g (suc n)) n (out .st) stored = frame-flags g (Low g (suc n)) n (out .st) stored refl refl refl refl refl refl (λ m z. (refl, refl))
           (λ m z q. up-other (out .st .fl) n f1 m (λ e. z (ap (g .kind) e ∙ kn, omega arith))) (λ m q. up-by (out .st .fl) n f1 (λ (x : Named). x ≡ f1) m (λ e. refl) (λ e. q)) in
-          frame-then g (Low g (suc n)) n s (out .st) stored (i .lists) (went .inside .lists) (frame-then g (Low g (suc n)) n s s₁ (out .st) (i .lists) (i₁ .lists) f₁ a) b
-        where
-          near : (m : ℕ) → Near g st n m → Low g (suc n) m
-          near m (inl p) = let a = p .1 in (p .0, omega arith)
-          near m (inr q) = (ap (g .kind) q ∙ kn, omega arith)
+          frame-then g (Low g (suc n)) n s (out .st) stored (i .lists) (went .inside .lists) f-evaluated b
 
       few-stored : length (readLinks (g .kind) (stored .dep) (stored .done n)) ≤ reads-of g st n
       few-stored = let a = reads-few (g .kind) (stored .dep) (stored .done n) in let b = went .few in omega arith
 
       -- a first evaluation has nothing to purge
-      first-ends : s₁ .rest n ≡ [] → Freshened g st X s n (ans stored false)
+      pub first-ends : s₁ .rest n ≡ [] → Freshened g st X s n (ans stored false)
       first-ends e = record {
         inside = let-out g X stored n i-stored
             (rests-clean g st (stored .queue) (stored .dep) (stored .sub) n (stored .fl n) (stored .gone n) (stored .done n) (stored .rest n) (stored .subs n) h rn
@@ -135,7 +146,7 @@ module _ (g : Given) (st : Static g) where
         changed = λ q. false≢true q;
       }
 
-      update-ends : (b : Bool) → (b ≡ true → s .fl n ≡ f1 → ⊥) → Freshened g st X s n (ans (purge stored n) b)
+      pub update-ends : (b : Bool) → (b ≡ true → s .fl n ≡ f1 → ⊥) → Freshened g st X s n (ans (purge stored n) b)
       update-ends b ch =
           let p = purge-inside g st (also X n) stored n i-stored (inr refl) apart in
           let t = purge stored n in
@@ -146,7 +157,7 @@ module _ (g : Given) (st : Static g) where
           let c = went .few in
           record {
             inside = let-out g X t n (p .inside) (rests-clean g st (t .queue) (t .dep) (t .sub) n (t .fl n) (t .gone n) (t .done n) (t .rest n) (t .subs n) h rn flag (p .inside .gone-kind n h rn) (p .rest) (omega arith));
-            frame = frame-then g (Low g (suc n)) n s stored t (i .lists) (i-stored .lists) f-stored (purge-frame g st (also X n) stored t n i-stored h kn p);
+            frame = frame-then g (Low g (suc (rank n))) n s stored t (i .lists) (i-stored .lists) f-stored (purge-frame g st (also X n) stored t n i-stored h kn p);
             clean = flag;
             changed = ch;
           }
@@ -155,15 +166,15 @@ module _ (g : Given) (st : Static g) where
           apart m p (inl x) = either (readable (g .kind m)) (λ r. let a = ab m x r in let b = p .0 .low r rn in omega arith) (λ r. clash rn (p .0 .high r .0))
           apart m p (inr q) = p .1 q
 
-    module _ (X : Set) (s : St) (n : ℕ) (i : Inside g X s) (o : Open g st X s) (h : n < g .size) (ab : Above g st X n) (le : n ≤ k) where
-      form-is : s .form n ≡ g .form n
+    module _ (X : Set) (s : St) (n : ℕ) (i : Inside g X s) (o : Open g st X s) (h : n < g .size) (ab : Above g st X n) (le : rank n ≤ k) where
+      pub form-is : s .form n ≡ g .form n
       form-is = ap (λ (z : Given). z .form n) (i .same)
 
-      wide : Inside g (also X n) s
+      pub wide : Inside g (also X n) s
       wide = widen g X (also X n) s (λ m x. inl x) i
 
       -- at rest, a node that can be read is outside X
-      n-off : readable (g .kind n) ≡ true → X n → ⊥
+      pub n-off : readable (g .kind n) ≡ true → X n → ⊥
       n-off r x = let a = ab n x r in omega arith
 
       first-inside : g .kind n ≡ computed → s .fl n ≡ f0 → s .done n ≡ [] → s .rest n ≡ [] → Freshened g st X s n (ans (firstW fr s n) false)
@@ -171,7 +182,7 @@ module _ (g : Given) (st : Static g) where
       first-inside kn fl e e′ =
           let s₁ = setFl s n f5 in
           let i₁ : Inside g (also X n) s₁ = flags-inside g (also X n) s n wide (inr refl) f5 (λ q. refl) in
-          let f₁ : Frame g (Low g (suc n)) n s s₁ = frame-flags g (Low g (suc n)) n s s₁ refl refl refl refl refl refl (λ m z. (refl, refl))
+          let f₁ : Frame g (Low g (suc (rank n))) (rank n) s s₁ = frame-flags g (Low g (suc (rank n))) n s s₁ refl refl refl refl refl refl (λ m z. (refl, refl))
           (λ m z q. up-other (s .fl) n f5 m (λ x. z (ap (g .kind) x ∙ kn, omega arith)))
           (λ m q. up-other (s .fl) n f5 m (λ x. clash (ap (λ (z : Named). z .mutable) q) (ap (λ (z : Named). z .mutable) (ap (s .fl) x ∙ fl))) ∙ q) in
           let few : length (readLinks (g .kind) (s .dep) (s .rest n)) ≤ reads-of g st n = subst (λ (x : List ℕ). length (readLinks (g .kind) (s .dep) x) ≤ reads-of g st n) (sym e′) (omega arith) in
@@ -185,8 +196,8 @@ module _ (g : Given) (st : Static g) where
           let s₁ = setFl (rewind c n) n f5 in
           let ic : Inside g (also X n) c = others g (also X n) s wide (raised (s .cycle)) (s .sto) (s .pend) (s .depth) (s .log) (s .stuck) in
           let i₁ : Inside g (also X n) s₁ = flags-inside g (also X n) (rewind c n) n (rewind-inside g (also X n) c n ic (inr refl)) (inr refl) f5 (λ q. refl) in
-          let off : (m : ℕ) → (Low g (suc n) m → ⊥) → m ≡ n → ⊥ = λ m z x. z (ap (g .kind) x ∙ kn, omega arith) in
-          let f₁ : Frame g (Low g (suc n)) n s s₁ = frame-flags g (Low g (suc n)) n s s₁ refl refl refl refl refl refl
+          let off : (m : ℕ) → (Low g (suc (rank n)) m → ⊥) → m ≡ n → ⊥ = λ m z x. z (ap (g .kind) x ∙ kn, omega arith) in
+          let f₁ : Frame g (Low g (suc (rank n))) (rank n) s s₁ = frame-flags g (Low g (suc (rank n))) n s s₁ refl refl refl refl refl refl
           (λ m z. (up-other (s .done) n [] m (off m z), up-other (s .rest) n (s .done n ++ s .rest n) m (off m z)))
           (λ m z q. up-other (s .fl) n f5 m (off m z))
           (λ m q. up-other (s .fl) n f5 m (λ x. un (sym (ap (s .fl) x) ∙ q)) ∙ q) in
@@ -205,13 +216,13 @@ module _ (g : Given) (st : Static g) where
           record {
             inside = let-out g X t n it
                 (rests-clean g st (t .queue) (t .dep) (t .sub) n (t .fl n) (t .gone n) (t .done n) (t .rest n) (t .subs n) h (ap readable kn) (up-same (s .fl) n f1) (i .gone-kind n h (ap readable kn)) (r .tail) (r .few));
-            frame = frame-flags g (Low g (suc n)) n s t refl refl refl refl refl refl (λ m z. (refl, refl)) (λ m z q. up-other (s .fl) n f1 m (λ x. q (ap (g .kind) x ∙ kn)))
+            frame = frame-flags g (Low g (suc (rank n))) n s t refl refl refl refl refl refl (λ m z. (refl, refl)) (λ m z q. up-other (s .fl) n f1 m (λ x. q (ap (g .kind) x ∙ kn)))
                 (λ m q. up-by (s .fl) n f1 (λ (x : Named). x ≡ f1) m (λ e. refl) (λ e. q));
             clean = up-same (s .fl) n f1;
             changed = λ q. un;
           }
 
-      upd-inside : readable (g .kind n) ≡ true → (s .fl n ≡ f1 → ⊥) → (c : Kind) → g .kind n ≡ c → Freshened g st X s n (updW fr c s n)
+      pub upd-inside : readable (g .kind n) ≡ true → (s .fl n ≡ f1 → ⊥) → (c : Kind) → g .kind n ≡ c → Freshened g st X s n (updW fr c s n)
       unfolding updW
       upd-inside r d signal e = signal-inside e d
       upd-inside r d computed e = update-inside e d
@@ -221,20 +232,20 @@ module _ (g : Given) (st : Static g) where
     -- ---- the dirty check of u
     pub record Checked (X : Set) (s : St) (u : ℕ) (a : Ans) : Type 0 where
       pub inside : Inside g X (a .st)
-      pub frame : Frame g (Low g u) u s (a .st)
+      pub frame : Frame g (Low g (rank u)) (rank u) s (a .st)
       pub answer : a .yes ≡ false → a .st .fl u .dirty ≡ false
 
-    module _ (X : Set) (u : ℕ) (hu : u < g .size) (le : u ≤ k) (above : (m : ℕ) → X m → readable (g .kind m) ≡ true → u ≤ m) (apart : (d : ℕ) → d < g .size → Goes g d u → X d → ⊥) where
-      u-off : Low g u u → ⊥
+    module _ (X : Set) (u : ℕ) (hu : u < g .size) (le : rank u ≤ k) (above : (m : ℕ) → X m → readable (g .kind m) ≡ true → rank u ≤ rank m) (apart : (d : ℕ) → d < g .size → Goes g d u → X d → ⊥) where
+      u-off : Low g (rank u) u → ⊥
       u-off p = let a = p .1 in omega arith
 
-      X-off : (m : ℕ) → X m → Low g u m → ⊥
+      X-off : (m : ℕ) → X m → Low g (rank u) m → ⊥
       X-off m x p = let a = above m x (ap readable (p .0)) in let b = p .1 in omega arith
 
       checkOn-inside : (ls passed : List ℕ) (s : St) → Inside g X s → Open g st X s → deps s u ≡ passed ++ ls
           → ((l : ℕ) → In l passed → readable (g .kind (s .dep l)) ≡ true → s .fl (s .dep l) ≡ f1) → (s .fl u .dirty ≡ true → ls ≡ [] → ⊥) → Checked X s u (checkOn fr u s ls)
       unfolding checkOn
-      checkOn-inside [] passed s i o e pass dl = record { inside = i; frame = frame-same g (Low g u) u s; answer = λ z. either (s .fl u .dirty) (λ q. absurd (dl q refl)) (λ q. q) }
+      checkOn-inside [] passed s i o e pass dl = record { inside = i; frame = frame-same g (Low g (rank u)) u s; answer = λ z. either (s .fl u .dirty) (λ q. absurd (dl q refl)) (λ q. q) }
       checkOn-inside (l ∷ ls) passed s i o e pass dl =
           let lin : In l (deps s u) = subst (In l) (sym e) (in-right l passed (l ∷ ls) (inl refl)) in
           let lv = i .lists .deps-live l u lin in
@@ -245,38 +256,38 @@ module _ (g : Given) (st : Static g) where
           let rd = i .rests d hd d-off in
           let has = i .lists .live-in-subs l (lv .0) in
           let next : deps s u ≡ (passed ++ l ∷ []) ++ ls = e ∙ sym (append-assoc passed (l ∷ []) ls) in
-          branch (Checked X s u) (s .fl u .dirty) (λ q. record { inside = i; frame = frame-same g (Low g u) u s; answer = λ z. false≢true (sym z) })
+          branch (Checked X s u) (s .fl u .dirty) (λ q. record { inside = i; frame = frame-same g (Low g (rank u)) u s; answer = λ z. false≢true (sym z) })
           (λ q. branch (Checked X s u) (s .fl d .mutable)
           (λ m. let r : readable (g .kind d) ≡ true = moves-read g (s .queue) (s .dep) (s .sub) d _ _ _ _ _ rd m in
           let lo = gd .lower r in
           let a = fr s d in
           let f = frs X s d i o hd r (λ n x y. let z = above n x y in omega arith) (omega arith) in
           let t = a .st in
-          let u-far : Low g (suc d) u → ⊥ = λ p. let z = p .1 in omega arith in
+          let u-far : Low g (suc (rank d)) u → ⊥ = λ p. let z = p .1 in omega arith in
           let st-same : steady (s .subs d) t d ≡ t = steady-same (s .subs d) t d (f .frame .subs d (λ z. omega arith)) (λ z. nil-none (s .subs d) l z has) in
-          let wide : Frame g (Low g u) u s t = frame-wider g (Low g (suc d)) (Low g u) d u s t (λ n p. let z = p .1 in (p .0, omega arith)) (omega arith) (f .frame) in
+          let wide : Frame g (Low g (rank u)) (rank u) s t = frame-wider g (Low g (suc (rank d))) (Low g (rank u)) d u s t (λ n p. let z = p .1 in (p .0, omega arith)) (omega arith) (f .frame) in
           subst (λ (x : St). Checked X s u (elim (a .yes) [ true ↦ ans (elim (several (x .subs d)) [ true ↦ shallow x d | false ↦ x ]) true | false ↦ checkOn fr u x ls ])) (sym st-same)
           (branch (Checked X s u) (a .yes)
           (λ y. branch (λ (x : St). Checked X s u (ans x true)) (several (t .subs d))
-          (λ z. record { inside = shallow-inside g X t d (f .inside); frame = shallow-frame g X (Low g u) u u s t d i (f .inside) wide (omega arith) lo r (f .changed y); answer = λ w. false≢true (sym w) })
+          (λ z. record { inside = shallow-inside g X t d (f .inside); frame = shallow-frame g X (Low g (rank u)) u u s t d i (f .inside) wide (omega arith) lo r (f .changed y); answer = λ w. false≢true (sym w) })
           (λ z. record { inside = f .inside; frame = wide; answer = λ w. false≢true (sym w) }))
           (λ y. let lists = f .frame .lists u u-far in
           let deps-same : deps t u ≡ deps s u = ap₂ (λ (x z : List ℕ). x ++ z) (lists .0) (lists .1) in
           let held : (j : ℕ) → In j (deps s u) → s .fl (s .dep j) ≡ f1 → (t .dep j ≡ s .dep j) × (t .fl (s .dep j) ≡ f1) =
-          λ j z c. let w = i .lists .deps-live j u z in let off : Low g (suc d) (s .sub j) → ⊥ = λ p. u-far (subst (Low g (suc d)) (w .1) p) in (f .frame .links j (w .0) off .1, f .frame .held j (w .0) off c) in
-          let dep-l : t .dep l ≡ d = f .frame .links l (lv .0) (λ p. u-far (subst (Low g (suc d)) (lv .1) p)) .1 in
-          let n = checkOn-inside ls (passed ++ l ∷ []) t (f .inside) (open-frame g st X (Low g u) u s t i (f .inside) wide X-off o) (deps-same ∙ next)
+          λ j z c. let w = i .lists .deps-live j u z in let off : Low g (suc (rank d)) (s .sub j) → ⊥ = λ p. u-far (subst (Low g (suc (rank d))) (w .1) p) in (f .frame .links j (w .0) off .1, f .frame .held j (w .0) off c) in
+          let dep-l : t .dep l ≡ d = f .frame .links l (lv .0) (λ p. u-far (subst (Low g (suc (rank d))) (lv .1) p)) .1 in
+          let n = checkOn-inside ls (passed ++ l ∷ []) t (f .inside) (open-frame g st X (Low g (rank u)) u s t i (f .inside) wide X-off o) (deps-same ∙ next)
           (λ j z c. in-cases j passed (l ∷ []) z
           (λ w. let v : In j (deps s u) = subst (In j) (sym e) (in-left j passed (l ∷ ls) w) in
           let x = i .lists .deps-live j u v in
-          let dj : t .dep j ≡ s .dep j = f .frame .links j (x .0) (λ p. u-far (subst (Low g (suc d)) (x .1) p)) .1 in
+          let dj : t .dep j ≡ s .dep j = f .frame .links j (x .0) (λ p. u-far (subst (Low g (suc (rank d))) (x .1) p)) .1 in
           let y = held j v (pass j w (subst (λ (b : ℕ). readable (g .kind b) ≡ true) dj c)) in
           subst (λ (b : ℕ). t .fl b ≡ f1) (sym dj) (y .1))
           (λ w. subst (λ (b : ℕ). t .fl b ≡ f1) (sym (ap (t .dep) (one j w) ∙ dep-l)) (f .clean)))
           (λ soil z. absurd (later s d l ls passed lv q e z pass (f .frame .soiled u u-far (λ w. gd .of-signal w) q soil) i)) in
           record {
             inside = n .inside;
-            frame = frame-then g (Low g u) u s t _ (i .lists) (f .inside .lists) wide (n .frame);
+            frame = frame-then g (Low g (rank u)) u s t _ (i .lists) (f .inside .lists) wide (n .frame);
             answer = n .answer;
           })))
           (λ m. let own : readable (g .kind d) ≡ false = either (readable (g .kind d)) (λ r. clash (read-moves g (s .queue) (s .dep) (s .sub) d _ _ _ _ _ rd l has r) m) (λ r. r) in
@@ -306,7 +317,7 @@ module _ (g : Given) (st : Static g) where
           (λ e. checkOn-inside (deps s u) [] s i o refl (λ l j. absurd j) (λ q z. ne z))
 
     -- ---- never evaluated, dirty, pending, clean
-    module _ (X : Set) (s : St) (n : ℕ) (i : Inside g X s) (o : Open g st X s) (h : n < g .size) (r : readable (g .kind n) ≡ true) (ab : Above g st X n) (le : n ≤ k) where
+    module _ (X : Set) (s : St) (n : ℕ) (i : Inside g X s) (o : Open g st X s) (h : n < g .size) (r : readable (g .kind n) ≡ true) (ab : Above g st X n) (le : rank n ≤ k) where
       resting : Rests g s n
       resting = i .rests n h (n-off X s n i o h ab le r)
 
@@ -325,15 +336,15 @@ module _ (g : Given) (st : Static g) where
           let c = checkW fr s n in
           let t = c .st in
           let w = check-inside X n h le (λ m x q. let a = ab m x q in omega arith) apart s i o ne in
-          let n-low : Low g n n → ⊥ = λ p. let a = p .1 in omega arith in
+          let n-low : Low g (rank n) n → ⊥ = λ p. let a = p .1 in omega arith in
           let still : t .fl n .pending ≡ true = w .frame .pending n n-low (λ q. clash (ap aComputed kn) (ap aComputed q)) ∙ pd in
-          let wide : Frame g (Low g (suc n)) n s t = frame-wider g (Low g n) (Low g (suc n)) n n s t (λ m p. let a = p .1 in (p .0, omega arith)) (omega arith) (w .frame) in
-          let opened : Open g st X t = open-frame g st X (Low g n) n s t i (w .inside) (w .frame) (λ m x p. let a = ab m x (ap readable (p .0)) in let b = p .1 in omega arith) o in
+          let wide : Frame g (Low g (suc (rank n))) (rank n) s t = frame-wider g (Low g (rank n)) (Low g (suc (rank n))) n n s t (λ m p. let a = p .1 in (p .0, omega arith)) (omega arith) (w .frame) in
+          let opened : Open g st X t = open-frame g st X (Low g (rank n)) n s t i (w .inside) (w .frame) (λ m x p. let a = ab m x (ap readable (p .0)) in let b = p .1 in omega arith) o in
           branch (Freshened g st X s n) (c .yes)
           (λ y. let f = upd-inside X t n (w .inside) opened h ab le r (λ e. clash (sym (ap (λ (z : Named). z .pending) e) ∙ still) refl) (s .kind n) (sym kind-is) in
           record {
             inside = f .inside;
-            frame = frame-then g (Low g (suc n)) n s t _ (i .lists) (w .inside .lists) wide (f .frame);
+            frame = frame-then g (Low g (suc (rank n))) n s t _ (i .lists) (w .inside .lists) wide (f .frame);
             clean = f .clean;
             changed = λ q. not-clean (λ (z : Named). z .pending) pd refl;
           })
@@ -342,12 +353,12 @@ module _ (g : Given) (st : Static g) where
           let x = setFl t n (withPending (t .fl n) false) in
           let ix : Inside g (also X n) x = flags-inside g (also X n) t n (widen g X (also X n) t (λ m z. inl z) (w .inside)) (inr refl) (withPending (t .fl n) false) (λ q. clash q refl) in
           let now : x .fl n ≡ f1 = up-same (t .fl) n (withPending (t .fl n) false) ∙ flag in
-          let f : Frame g (Low g (suc n)) n t x = frame-flags g (Low g (suc n)) n t x refl refl refl refl refl refl (λ m z. (refl, refl))
+          let f : Frame g (Low g (suc (rank n))) (rank n) t x = frame-flags g (Low g (suc (rank n))) n t x refl refl refl refl refl refl (λ m z. (refl, refl))
           (λ m z q. up-other (t .fl) n _ m (λ e. z (ap (g .kind) e ∙ kn, omega arith)))
           (λ m q. up-by (t .fl) n (withPending (t .fl n) false) (λ (z : Named). z ≡ f1) m (λ e. flag) (λ e. q)) in
           record {
             inside = let-out g X x n ix (rests-clean g st (x .queue) (x .dep) (x .sub) n (x .fl n) (x .gone n) (x .done n) (x .rest n) (x .subs n) h r now (w .inside .gone-kind n h r) (rt .tail) (rt .few));
-            frame = frame-then g (Low g (suc n)) n s t x (i .lists) (w .inside .lists) wide f;
+            frame = frame-then g (Low g (suc (rank n))) n s t x (i .lists) (w .inside .lists) wide f;
             clean = now;
             changed = λ q. false≢true q;
           })
@@ -355,20 +366,13 @@ module _ (g : Given) (st : Static g) where
           apart : (d : ℕ) → d < g .size → Goes g d n → X d → ⊥
           apart d hd gd x = let q = gd .of-computed kn in let a = gd .lower q in let b = ab d x q in omega arith
 
-          cleared : (f : Named) (links subs : List ℕ) → f .pending ≡ true → f .dirty ≡ false → ComputedFlags f links subs → withPending f false ≡ f1
-          cleared f links subs p q (never e x y) = clash p (ap (λ (z : Named). z .pending) e)
-          cleared f links subs p q (clean e) = clash p (ap (λ (z : Named). z .pending) e)
-          cleared f links subs p q (stale e x) = clash p (ap (λ (z : Named). z .pending) e)
-          cleared f links subs p q (maybe e x) = ap (λ (z : Named). withPending z false) e
-          cleared f links subs p q (dirty e x) = clash (ap (λ (z : Named). z .dirty) e) q
-
       pub whole-inside : Freshened g st X s n (freshW fr s n)
       unfolding freshW
       whole-inside =
           branch (Freshened g st X s n) (bare (s .fl n)) (λ b. by-bare b (g .kind n) refl)
           (λ b. branch (Freshened g st X s n) (s .fl n .dirty) (λ d. upd-inside X s n i o h ab le r (not-clean (λ (z : Named). z .dirty) d refl) (s .kind n) (sym kind-is))
           (λ d. branch (Freshened g st X s n) (s .fl n .pending) (λ p. by-pending p (g .kind n) refl)
-          (λ p. record { inside = i; frame = frame-same g (Low g (suc n)) n s; clean = by-clean b d p (g .kind n) refl; changed = λ q. false≢true q })))
+          (λ p. record { inside = i; frame = frame-same g (Low g (suc (rank n))) n s; clean = by-clean b d p (g .kind n) refl; changed = λ q. false≢true q })))
         where
           signal-flags : (s .fl n ≡ f1) ⊎ (s .fl n ≡ f17) → (bare (s .fl n) ≡ false) × (s .fl n .pending ≡ false) × (s .fl n .dirty ≡ false → s .fl n ≡ f1)
           signal-flags (inl e) = (ap bare e, ap (λ (z : Named). z .pending) e, λ q. e)

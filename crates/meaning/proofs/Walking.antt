@@ -11,6 +11,7 @@ use borrow.Author.Tests.{eqb-true, eqb-false, lt-leb}
 use Rattle.primitive.specs.declared.flags.Named.{Named}
 use Rattle.primitive.specs.declared.values.Value.{Value}
 use Rattle.primitive.specs.Values.{same}
+use Rattle.lists.proofs.SumLaws.{sum-add}
 use Rattle.meaning.specs.State.{St, signal, readable, unclean, recursing, f17, up}
 use Rattle.meaning.specs.Setters.{setFl, setPend}
 use Rattle.meaning.specs.Links.{isNil, several}
@@ -117,12 +118,34 @@ module _ (g : Given) (st : Static g) (s : St) where
       record { inside = x .inside; stuck = x .stuck ∙ n .stuck }))
       (λ mu. let x = prop-inside k m′ w st′ (n .inside) (λ y j. ok y (inr j)) oks (omega arith) (omega arith) in record { inside = x .inside; stuck = x .stuck ∙ n .stuck })))
 
-  -- ---- the budget
-  total-double : (f : ℕ → ℕ) (n : ℕ) → total (λ m. f m + f m) n ≡ total f n + total f n
-  unfolding total
-  total-double f zero = refl
-  total-double f (suc n) = let e = total-double f n in omega arith
+  -- after k turns, whatever is left to do
+  prop-turns : (k : ℕ) (m : Marks) (w : List ℕ) (st′ : List (List ℕ)) → Inside g nobody (withMarks s m) → ((l : ℕ) → In l w → Ok l) → AllOk st′ → Inside g nobody (withMarks s (prop s k m w st′))
+  unfolding prop
+  prop-turns zero m w st′ i ok oks = stuck-inside g nobody (withMarks s m) (m .stuck || true) i
+  prop-turns (suc k) m [] [] i ok oks = i
+  prop-turns (suc k) m [] (w ∷ st′) i ok oks = prop-turns k m w st′ i (oks .0) (oks .1)
+  prop-turns (suc k) m (l ∷ w) st′ i ok oks =
+      let u = s .sub l in
+      let P : Marks → Type 0 = λ x. Inside g nobody (withMarks s x) in
+      let lv = ok l (inl refl) in
+      let r = i .rests u (i .lists .inside l (lv .0) .1) (λ z. z) in
+      branch P (recursing (m .fl u)) (λ e. clash e (no-recursing g (withMarks s m) u r))
+      (λ e. branch P (unclean (m .fl u)) (λ d. prop-turns k m w st′ i (λ x j. ok x (inr j)) oks)
+      (λ d. let n = mark-kept m l i lv d in
+      let m′ = mark s m u in
+      branch P (m .fl u .mutable)
+      (λ mu. let ru = moves-read g (m .queue) (s .dep) (s .sub) u _ _ _ _ _ r mu in
+      let oku : (x : ℕ) → In x (s .subs u) → Ok x = λ x j. let y = i .lists .subs-live x u j in (y .0, ap (λ (z : ℕ). readable (g .kind z)) (y .1) ∙ ru) in
+      branch P (several (s .subs u))
+      (λ sv. let h = halt m′ (stackFull s st′) in
+      prop-turns k h (s .subs u) (w ∷ st′) (stuck-inside g nobody (withMarks s m′) (h .stuck) (n .inside)) oku (λ y j. ok y (inr j), oks))
+      (λ sv. prop-turns k m′ (s .subs u ++ w) st′ (n .inside) (λ y j. in-cases y (s .subs u) w j (oku y) (λ z. ok y (inr z))) oks))
+      (λ mu. prop-turns k m′ w st′ (n .inside) (λ y j. ok y (inr j)) oks)))
 
+  pub propagate-turns : (d : ℕ) → Inside g nobody s → readable (g .kind d) ≡ true → (k : ℕ) → Inside g nobody (withMarks s (prop s k (marksOf s) (s .subs d) []))
+  propagate-turns d i r k = prop-turns k (marksOf s) (s .subs d) [] i (λ l j. let x = i .lists .subs-live l d j in (x .0, ap (λ (z : ℕ). readable (g .kind z)) (x .1) ∙ r)) tt
+
+  -- ---- the budget
   total-ones : (f : ℕ → ℕ) (n : ℕ) → ((m : ℕ) → f m ≤ 1) → total f n ≤ n
   unfolding total
   total-ones f zero h = omega arith
@@ -143,7 +166,7 @@ module _ (g : Given) (st : Static g) (s : St) where
   pub propagate-inside : (d : ℕ) → Inside g nobody s → d < g .size → readable (g .kind d) ≡ true → unclean (s .fl d) ≡ true → Goes-on g nobody s (propagate s d)
   propagate-inside d i h r un =
       let a = subs-most (i .lists) in
-      let dbl = total-double (λ n. length (s .subs n)) (g .size) in
+      let dbl = sum-add (λ n. length (s .subs n)) (λ n. length (s .subs n)) (g .size) in
       let here : unless (unclean (s .fl d)) (cost d) ≡ 0 = ap (λ (b : Bool). unless b (cost d)) un in
       let c : clean-sum (s .fl) cost (g .size) + cost d ≤ total cost (g .size) = total-spare (λ n. unless (unclean (s .fl n)) (cost n)) cost (g .size) d (cost d) h (omega arith) (λ n lt. unless-most (unclean (s .fl n)) (cost n)) in
       let e : s .room .slots ≡ g .room .slots = ap (λ (z : Given). z .room .slots) (i .same) in
@@ -157,7 +180,7 @@ module _ (g : Given) (st : Static g) (s : St) (n : ℕ) (v : Value) (i : Inside 
   abbrev written : St
   written = setFl (setPend s n v) n f17
 
-  i-written : Inside g nobody written
+  pub i-written : Inside g nobody written
   i-written =
       let it : Inside g (also nobody n) written =
       flags-inside g (also nobody n) (setPend s n v) n (others g (also nobody n) s (widen g nobody (also nobody n) s (λ m z. absurd z) i) (s .cycle) (s .sto) (up (s .pend) n v) (s .depth) (s .log) (s .stuck)) (inr refl) f17 (λ q. refl) in

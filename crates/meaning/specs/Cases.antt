@@ -1,14 +1,32 @@
 -- Document 01, "Cases": the twelve marked P, each from empty tables, with the answers they must give.
 use mathlib.Core.Path.{_≡_}
+use mathlib.Core.Bool.{true}
 use mathlib.Core.List.{List, [], _∷_, _++_}
 use Prim.Native.Nat.{ℕ}
 use lib.IntN.{ℤ, pos, negsuc}
 use lib.ListN.{replicate}
+use Rattle.primitive.specs.declared.values.Value.{Value}
 use Rattle.primitive.specs.Values.{value, greatest}
 use Rattle.formula.specs.declared.cells.Op.the-variants.{Sum, Difference, Less}
 use Rattle.formula.specs.Trees.{Tree, constant, read, two, written}
-use Rattle.meaning.specs.State.{St, Room, empty, deps}
-use Rattle.meaning.specs.Commands.{Told, answers, afterAll}
+use Rattle.meaning.specs.State.{St, Room, Row, empty, deps}
+use Rattle.meaning.specs.Commands.{command}
+
+-- ---- scripts from well-formed tables: refusal number, value, and effect and value of each run
+abbrev pub Told : Type 0
+Told = ℕ × Value × List (ℕ × Value)
+
+unfoldable pub shown : List Row → List (ℕ × Value)
+shown [] = []
+shown (r ∷ rs) = (r .who, r .worth) ∷ shown rs
+
+unfoldable pub answers : St → ℕ → List (List ℤ) → List Told
+answers s rows [] = []
+answers s rows (c ∷ cs) = let a = command true s rows c in (a .code, a .val, shown (a .rows)) ∷ answers (a .st) rows cs
+
+unfoldable pub afterAll : St → ℕ → List (List ℤ) → St
+afterAll s rows [] = s
+afterAll s rows (c ∷ cs) = afterAll (command true s rows c .st) rows cs
 
 -- ---- the words of a command
 abbrev pub signalW : ℤ → List ℤ

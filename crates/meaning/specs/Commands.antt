@@ -1,14 +1,13 @@
--- Document 01, "Commands": deciding stands in Refusals; this is doing, the answer, scripts, and emptying.
-use mathlib.Core.Bool.{Bool, true, false, _&&_}
-use mathlib.Core.List.{List, [], _∷_}
+-- Document 01, "Commands": deciding stands in Refusals; this is doing, the answer, and emptying.
+use mathlib.Core.Bool.{Bool, true, false}
+use mathlib.Core.List.{List, []}
 use mathlib.Core.Option.{Option, none, some}
 use Prim.Native.Nat.{ℕ, zero, suc}
-use lib.Dec.{leb}
 use lib.IntN.{ℤ, pos}
 use lib.ListN.{length}
 use Rattle.primitive.specs.declared.values.Value.{Value}
 use Rattle.primitive.specs.Values.{value, sum}
-use Rattle.meaning.specs.State.{St, Room, Row, nothing, empty}
+use Rattle.meaning.specs.State.{St, Room, capacities, Row, nothing, empty}
 use Rattle.meaning.specs.Setters.{withLog}
 use Rattle.meaning.specs.Links.{stop, dispose}
 use Rattle.meaning.specs.Reads.{settle}
@@ -70,29 +69,6 @@ answer (suc r) s ws = refused s (suc r)
 unfoldable pub command : Bool → St → ℕ → List ℤ → Answer
 command well s rows ws = answer (refusal well (sightOf s rows) ws) s ws
 
--- ---- scripts from well-formed tables: refusal number, value, and effect and value of each run
-abbrev pub Told : Type 0
-Told = ℕ × Value × List (ℕ × Value)
-
-unfoldable pub shown : List Row → List (ℕ × Value)
-shown [] = []
-shown (r ∷ rs) = (r .who, r .worth) ∷ shown rs
-
-unfoldable pub answers : St → ℕ → List (List ℤ) → List Told
-answers s rows [] = []
-answers s rows (c ∷ cs) = let a = command true s rows c in (a .code, a .val, shown (a .rows)) ∷ answers (a .st) rows cs
-
-unfoldable pub afterAll : St → ℕ → List (List ℤ) → St
-afterAll s rows [] = s
-afterAll s rows (c ∷ cs) = afterAll (command true s rows c .st) rows cs
-
--- ---- emptying: nodes 1 to 1,024, link slots 1 to 8,192, cells 1 to 8,192
-abbrev pub within : ℕ → ℕ → Bool
-within k most = leb 1 k && leb k most
-
-abbrev pub capacities : Room → Bool
-capacities r = within (r .nodes) 1024 && (within (r .slots) 8192 && within (r .cells) 8192)
-
--- the answer, and the tables after it
+-- ---- emptying: the answer, and the tables after it
 unfoldable pub emptying : Room → St → ℕ × St
 emptying r s = elim (capacities r) [ true ↦ (0, empty r) | false ↦ (1, s) ]

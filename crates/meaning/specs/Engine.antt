@@ -10,7 +10,7 @@ use Rattle.primitive.specs.Values.{same}
 use Rattle.formula.specs.Trees.{Tree, constant, size, names}
 use Rattle.meaning.specs.State.{St, Kind, signal, computed, effect, scope, f0, f1, f2, f6, f17, nothing, raised}
 use Rattle.meaning.specs.Setters.{setKind, setForm, setOwner, setGone, setLevel, setFl, setSto, setPend, setDone, setRest, setSubs, withSize, withUsed, withQueue, withDepth, withCycle, withLog}
-use Rattle.meaning.specs.Links.{isNil, link, purge, rewind}
+use Rattle.meaning.specs.Links.{stop, isNil, link, purge, rewind}
 use Rattle.meaning.specs.Marks.{propagate}
 use Rattle.meaning.specs.Reads.{Out, check, evaluate}
 
@@ -26,13 +26,10 @@ rerun s e = let o = evaluate (setFl (rewind (withCycle s (raised (s .cycle))) e)
 -- its reads decide; a gone effect has flags 0 and does not run
 unfoldable pub run : St → ℕ → St
 run s e =
-    elim (s .fl e .dirty) [
-      | true ↦ rerun s e
-      | false ↦ elim (s .fl e .pending) [
-        | true ↦ let c = check s e in elim (c .yes) [ true ↦ rerun (c .st) e | false ↦ setFl (c .st) e f2 ]
-        | false ↦ setFl s e f2
-      ]
-    ]
+    let c = check s e in
+    let checked : St = elim (c .yes) [ true ↦ rerun (c .st) e | false ↦ setFl (c .st) e f2 ] in
+    let unless-dirty : St = elim (s .fl e .pending) [ true ↦ checked | false ↦ setFl s e f2 ] in
+    elim (s .fl e .dirty) [ true ↦ rerun s e | false ↦ unless-dirty ]
 
 unfoldable pub flushOn : St → List ℕ → St
 flushOn s [] = s
@@ -50,10 +47,9 @@ flushAt s (suc d) = s
 unfoldable pub store : St → ℕ → Value → St
 store s n v =
     let t = setFl (setPend s n v) n f17 in
-    elim (same (s .pend n) v) [
-      | true ↦ s
-      | false ↦ elim (isNil (s .subs n)) [ true ↦ t | false ↦ let p = propagate t n in flushAt p (p .depth) ]
-    ]
+    let p = propagate t n in
+    let written : St = elim (isNil (s .subs n)) [ true ↦ t | false ↦ flushAt p (p .depth) ] in
+    elim (same (s .pend n) v) [ true ↦ s | false ↦ written ]
 
 -- ---- heights and owner depths
 unfoldable pub tallest : (ℕ → ℕ) → List ℕ → ℕ
@@ -70,17 +66,11 @@ depthUnder h none = 1
 depthUnder h (some o) = suc (h o)
 
 abbrev pub levelOf : (ℕ → ℕ) → Kind → Tree → Option ℕ → ℕ
-levelOf h signal t o = 0
-levelOf h computed t o = heightOf h t
-levelOf h effect t o = depthUnder h o
-levelOf h scope t o = depthUnder h o
+levelOf h k t o = elim k [ signal ↦ 0 | computed ↦ heightOf h t | effect ↦ depthUnder h o | scope ↦ depthUnder h o ]
 
 -- ---- the cells that a new node takes
 abbrev pub cellsOf : Kind → Tree → ℕ
-cellsOf signal t = 0
-cellsOf computed t = size t
-cellsOf effect t = size t
-cellsOf scope t = 0
+cellsOf k t = elim k [ signal ↦ 0 | computed ↦ size t | effect ↦ size t | scope ↦ 0 ]
 
 -- ---- a new node has the next number
 abbrev pub bareNode : St → ℕ → St
@@ -109,11 +99,11 @@ newScope s o = owned (node s scope (constant (pos 0)) o f0 nothing) (s .size) o
 unfoldable pub newEffect : St → Option ℕ → Tree → St
 newEffect s o t = let n = s .size in let r = evaluate (owned (node s effect t o f6 nothing) n o) n in setFl (logged r n) n f2
 
--- ---- batches
+-- ---- batches; an end at depth 0 is refused
 abbrev pub start : St → St
 start s = withDepth s (suc (s .depth))
 
 abbrev pub endAt : St → ℕ → St
-endAt s zero = s
+endAt s zero = stop s
 endAt s (suc zero) = flush (withDepth s 0)
 endAt s (suc (suc d)) = withDepth s (suc d)

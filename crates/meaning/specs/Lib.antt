@@ -1,3 +1,4 @@
+pub mod Flags
 pub mod State
 pub mod Setters
 pub mod Reserve
@@ -12,3 +13,5 @@ pub mod Commands
 pub mod Cases
 pub mod Played
 pub mod Reach
+pub mod Owners
+pub mod Moments

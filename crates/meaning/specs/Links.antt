@@ -1,11 +1,12 @@
 -- Making and taking away links: link, and the ring of unlink, unwatched, dispose and purge.
 use mathlib.Core.Bool.{Bool, true, false, not, _&&_, _||_}
 use mathlib.Core.List.{List, [], _∷_, _++_}
+pub use mathlib.Core.List.{head? as headOf}
 use mathlib.Core.Option.{Option, none, some}
 use Prim.Native.Nat.{ℕ, zero, suc, _+_}
 use lib.Dec.{eqb, leb, ltb}
 use lib.ListN.{length}
-use Rattle.meaning.specs.State.{St, f0, f17}
+use Rattle.meaning.specs.State.{St, on, f0, f17}
 use Rattle.meaning.specs.Reserve.{reserve}
 use Rattle.meaning.specs.Setters.{withFree, withStuck, setDone, setRest, setSubs, setLive, setDep, setSub, setVer, setFl, setGone}
 
@@ -14,10 +15,6 @@ abbrev pub stop : St → St
 stop s = withStuck s true
 
 -- ---- lists of slots
-abbrev pub headOf : List ℕ → Option ℕ
-headOf [] = none
-headOf (x ∷ xs) = some x
-
 abbrev pub lastOf : List ℕ → Option ℕ
 lastOf [] = none
 lastOf (x ∷ xs) = elim (lastOf xs) [ none ↦ some x | some y ↦ some y ]
@@ -42,12 +39,10 @@ each f s (l ∷ ls) = each f (f s l) ls
 
 -- ---- link d u v: u reads (or owns) d, at version v
 abbrev pub goesTo : St → Option ℕ → ℕ → Bool
-goesTo s none d = false
-goesTo s (some l) d = eqb (s .dep l) d
+goesTo s o d = on o (λ l. eqb (s .dep l) d)
 
 abbrev pub isFrom : St → Option ℕ → ℕ → ℕ → Bool
-isFrom s none u v = false
-isFrom s (some l) u v = eqb (s .ver l) v && eqb (s .sub l) u
+isFrom s o u v = on o (λ l. eqb (s .ver l) v && eqb (s .sub l) u)
 
 -- the next old link is taken over: the cursor passes it
 unfoldable pub renew : St → ℕ → ℕ → List ℕ → St
@@ -67,13 +62,9 @@ insert s d u v (l ∷ ls) =
 -- the link before the cursor goes to d; the one after it does; the newest of d is of u at this version; else a new one
 unfoldable pub link : St → ℕ → ℕ → ℕ → St
 link s d u v =
-    elim (goesTo s (lastOf (s .done u)) d) [
-      | true ↦ s
-      | false ↦ elim (goesTo s (headOf (s .rest u)) d) [
-        | true ↦ renew s u v (s .rest u)
-        | false ↦ elim (isFrom s (lastOf (s .subs d)) u v) [ true ↦ s | false ↦ insert s d u v (s .free) ]
-      ]
-    ]
+    let unless-next : St = elim (isFrom s (lastOf (s .subs d)) u v) [ true ↦ s | false ↦ insert s d u v (s .free) ] in
+    let unless-last : St = elim (goesTo s (headOf (s .rest u)) d) [ true ↦ renew s u v (s .rest u) | false ↦ unless-next ] in
+    elim (goesTo s (lastOf (s .done u)) d) [ true ↦ s | false ↦ unless-last ]
 
 -- ---- the ring; ul is unlink
 -- the link leaves both lists, and its slot is free before anything else happens
@@ -104,19 +95,15 @@ disposeW ul s x =
 -- d has lost its last subscriber: an effect or a scope is disposed; a computed with dependencies becomes 17 and drops them
 unfoldable pub unwatchedW : (St → ℕ → St) → St → ℕ → St
 unwatchedW ul s d =
-    elim (s .fl d .mutable) [
-      | false ↦ disposeW ul s d
-      | true ↦ elim (isNil (s .done d)) [ true ↦ s | false ↦ purgeW ul (setFl (rewind s d) d f17) d ]
-    ]
+    let dropped : St = elim (isNil (s .done d)) [ true ↦ s | false ↦ purgeW ul (setFl (rewind s d) d f17) d ] in
+    elim (s .fl d .mutable) [ true ↦ dropped | false ↦ disposeW ul s d ]
 
 -- stuck where the budget ends, or the slot is free already
 unfoldable pub unlinkN : ℕ → St → ℕ → St
 unlinkN zero s l = stop s
 unlinkN (suc k) s l =
-    elim (s .live l) [
-      | false ↦ stop s
-      | true ↦ elim (isNil (cut s l .subs (s .dep l))) [ true ↦ unwatchedW (unlinkN k) (cut s l) (s .dep l) | false ↦ cut s l ]
-    ]
+    let unlinked : St = elim (isNil (cut s l .subs (s .dep l))) [ true ↦ unwatchedW (unlinkN k) (cut s l) (s .dep l) | false ↦ cut s l ] in
+    elim (s .live l) [ true ↦ unlinked | false ↦ stop s ]
 
 -- the number of slots is budget enough: each unlink frees one before it calls on
 abbrev pub budget : St → ℕ

@@ -40,10 +40,7 @@ calm [] f = f
 calm (e ∷ c) f = calm c (up f e (withWatching (f e) false))
 
 abbrev pub isEffect : Kind → Bool
-isEffect signal = false
-isEffect computed = false
-isEffect effect = true
-isEffect scope = false
+isEffect k = elim k [ signal ↦ false | computed ↦ false | effect ↦ true | scope ↦ false ]
 
 unfoldable pub effects : (ℕ → Kind) → List ℕ → Bool
 effects k [] = true
@@ -74,19 +71,11 @@ prop s (suc k) m [] [] = m
 prop s (suc k) m [] (w ∷ st) = prop s k m w st
 prop s (suc k) m (l ∷ w) st =
     let u = s .sub l in
-    elim (recursing (m .fl u)) [
-      | true ↦ halt m true
-      | false ↦ elim (unclean (m .fl u)) [
-        | true ↦ prop s k m w st
-        | false ↦ elim (m .fl u .mutable) [
-          | false ↦ prop s k (mark s m u) w st
-          | true ↦ elim (several (s .subs u)) [
-            | true ↦ prop s k (halt (mark s m u) (stackFull s st)) (s .subs u) (w ∷ st)
-            | false ↦ prop s k (mark s m u) (s .subs u ++ w) st
-          ]
-        ]
-      ]
-    ]
+    let aside = prop s k (halt (mark s m u) (stackFull s st)) (s .subs u) (w ∷ st) in
+    let down : Marks = elim (several (s .subs u)) [ true ↦ aside | false ↦ prop s k (mark s m u) (s .subs u ++ w) st ] in
+    let unless-unclean : Marks = elim (m .fl u .mutable) [ true ↦ down | false ↦ prop s k (mark s m u) w st ] in
+    let unless-recursing : Marks = elim (unclean (m .fl u)) [ true ↦ prop s k m w st | false ↦ unless-unclean ] in
+    elim (recursing (m .fl u)) [ true ↦ halt m true | false ↦ unless-recursing ]
 
 -- each link is visited at most once, and puts at most one list aside
 abbrev pub turns : St → ℕ

@@ -8,7 +8,7 @@ use lib.IntN.{ℤ}
 use Rattle.primitive.specs.declared.flags.Named.{Named}
 use Rattle.primitive.specs.declared.values.Value.{Value}
 use Rattle.meaning.specs.State.{St, Kind, signal, computed, effect, scope, Room, deps, bare, empty}
-use Rattle.meaning.specs.Commands.{Told, answers, afterAll}
+use Rattle.meaning.specs.Cases.{Told, answers, afterAll}
 
 abbrev pub bit : Bool → ℕ → ℕ
 bit true k = k

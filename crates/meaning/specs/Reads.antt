@@ -65,10 +65,7 @@ unfoldable pub updSignal : St → ℕ → Ans
 updSignal s n = ans (setSto (setFl s n f1) n (s .pend n)) (not (same (s .sto n) (s .pend n)))
 
 unfoldable pub updW : (St → ℕ → Ans) → Kind → St → ℕ → Ans
-updW fr signal s n = updSignal s n
-updW fr computed s n = updComputed fr s n
-updW fr effect s n = ans (stop s) false
-updW fr scope s n = ans (stop s) false
+updW fr k s n = elim k [ signal ↦ updSignal s n | computed ↦ updComputed fr s n | effect ↦ ans (stop s) false | scope ↦ ans (stop s) false ]
 
 unfoldable pub sameSlots : List ℕ → List ℕ → Bool
 sameSlots [] [] = true
@@ -84,17 +81,12 @@ steady was t d = elim (sameSlots was (t .subs d) && not (isNil was)) [ true ↦ 
 unfoldable pub checkOn : (St → ℕ → Ans) → ℕ → St → List ℕ → Ans
 checkOn fr u s [] = ans s false
 checkOn fr u s (l ∷ ls) =
-    elim (s .fl u .dirty) [
-      | true ↦ ans s true
-      | false ↦ elim (s .fl (s .dep l) .mutable) [
-        | false ↦ checkOn fr u s ls
-        | true ↦
-            let d = s .dep l in
-            let r = fr s d in
-            let t = steady (s .subs d) (r .st) d in
-            elim (r .yes) [ true ↦ ans (elim (several (t .subs d)) [ true ↦ shallow t d | false ↦ t ]) true | false ↦ checkOn fr u t ls ]
-      ]
-    ]
+    let d = s .dep l in
+    let r = fr s d in
+    let t = steady (s .subs d) (r .st) d in
+    let asked : Ans = elim (r .yes) [ true ↦ ans (elim (several (t .subs d)) [ true ↦ shallow t d | false ↦ t ]) true | false ↦ checkOn fr u t ls ] in
+    let unless-dirty : Ans = elim (s .fl d .mutable) [ true ↦ asked | false ↦ checkOn fr u s ls ] in
+    elim (s .fl u .dirty) [ true ↦ ans s true | false ↦ unless-dirty ]
 
 -- stuck if there is nothing to check
 unfoldable pub checkW : (St → ℕ → Ans) → St → ℕ → Ans
@@ -108,13 +100,9 @@ pendingW fr s n =
 -- never evaluated; dirty; pending; clean
 unfoldable pub freshW : (St → ℕ → Ans) → St → ℕ → Ans
 freshW fr s n =
-    elim (bare (s .fl n)) [
-      | true ↦ ans (firstW fr s n) false
-      | false ↦ elim (s .fl n .dirty) [
-        | true ↦ updW fr (s .kind n) s n
-        | false ↦ elim (s .fl n .pending) [ true ↦ pendingW fr s n | false ↦ ans s false ]
-      ]
-    ]
+    let unless-dirty : Ans = elim (s .fl n .pending) [ true ↦ pendingW fr s n | false ↦ ans s false ] in
+    let unless-bare : Ans = elim (s .fl n .dirty) [ true ↦ updW fr (s .kind n) s n | false ↦ unless-dirty ] in
+    elim (bare (s .fl n)) [ true ↦ ans (firstW fr s n) false | false ↦ unless-bare ]
 
 unfoldable pub fresh : ℕ → St → ℕ → Ans
 fresh zero s n = ans (stop s) false

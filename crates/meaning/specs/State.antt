@@ -1,72 +1,27 @@
 -- Document 01, "The engine and its edges": what is said of each node and of each link slot.
 -- A column is a function of the number, and `up` changes it at one place.
-use mathlib.Core.Bool.{Bool, true, false, not, _||_}
+use mathlib.Core.Bool.{Bool, true, false, not, _&&_, _||_}
 use mathlib.Core.List.{List, [], _∷_, _++_}
-use mathlib.Core.Option.{Option, none}
+use mathlib.Core.Option.{Option, none, some}
 use Prim.Native.Nat.{ℕ, zero, suc, _+_, _%_, _^_}
-use lib.Dec.{eqb}
+use lib.Dec.{eqb, leb}
 use lib.IntN.{pos}
 use Rattle.primitive.specs.declared.flags.Named.{Named}
 use Rattle.primitive.specs.declared.values.Value.{Value}
 use Rattle.primitive.specs.Values.{value}
 use Rattle.formula.specs.Trees.{Tree, constant}
+pub use Rattle.meaning.specs.Flags.{f0, f1, f2, f5, f6, f17, f32, f33, f48, f49, withPending, withDirty, withWatching}
 
 pub data Kind : Type 0 where
   signal computed effect scope : Kind
 
 -- signals and computeds can be read
 abbrev pub readable : Kind → Bool
-readable signal = true
-readable computed = true
-readable effect = false
-readable scope = false
+readable k = elim k [ signal ↦ true | computed ↦ true | effect ↦ false | scope ↦ false ]
 
 -- the place of a node in the order of dependency: today its number
 abbrev pub rank : ℕ → ℕ
 rank n = n
-
--- the flags that occur, by their byte
-abbrev pub flags : Bool → Bool → Bool → Bool → Bool → Bool → Named
-flags m w c r d p = record { mutable = m; watching = w; «recursed_check» = c; recursed = r; dirty = d; pending = p }
-
-abbrev pub f0 : Named
-f0 = flags false false false false false false
-
-abbrev pub f1 : Named
-f1 = flags true false false false false false
-
-abbrev pub f2 : Named
-f2 = flags false true false false false false
-
-abbrev pub f5 : Named
-f5 = flags true false true false false false
-
-abbrev pub f6 : Named
-f6 = flags false true true false false false
-
-abbrev pub f17 : Named
-f17 = flags true false false false true false
-
-abbrev pub f32 : Named
-f32 = flags false false false false false true
-
-abbrev pub f33 : Named
-f33 = flags true false false false false true
-
-abbrev pub f48 : Named
-f48 = flags false false false false true true
-
-abbrev pub f49 : Named
-f49 = flags true false false false true true
-
-abbrev pub withPending : Named → Bool → Named
-withPending f b = flags (f .mutable) (f .watching) (f .«recursed_check») (f .recursed) (f .dirty) b
-
-abbrev pub withDirty : Named → Bool → Named
-withDirty f b = flags (f .mutable) (f .watching) (f .«recursed_check») (f .recursed) b (f .pending)
-
-abbrev pub withWatching : Named → Bool → Named
-withWatching f b = flags (f .mutable) b (f .«recursed_check») (f .recursed) (f .dirty) (f .pending)
 
 -- no flag at all: a computed that was never evaluated
 abbrev pub bare : Named → Bool
@@ -85,11 +40,17 @@ pub record Row : Type 0 where
   pub worth : Value
   pub reads : List (ℕ × Value)
 
--- the capacities
+-- the capacities: nodes 1 to 1,024, link slots 1 to 8,192, cells 1 to 8,192
 pub record Room : Type 0 where
   pub nodes : ℕ
   pub slots : ℕ
   pub cells : ℕ
+
+abbrev pub within : ℕ → ℕ → Bool
+within k most = leb 1 k && leb k most
+
+abbrev pub capacities : Room → Bool
+capacities r = within (r .nodes) 1024 && (within (r .slots) 8192 && within (r .cells) 8192)
 
 pub record St : Type 0 where
   pub room : Room
@@ -117,6 +78,11 @@ pub record St : Type 0 where
   pub log : List Row  -- the runs of the last accepted command
   pub stuck : Bool  -- an operation could not go on
 
+-- p of what there is
+abbrev pub on : {A : Type 0} → Option A → (A → Bool) → Bool
+on none p = false
+on (some a) p = p a
+
 -- a column with one place changed
 unfoldable pub up {ℓ} : {A : Type ℓ} → (ℕ → A) → ℕ → A → ℕ → A
 up f n v m = elim (eqb m n) [ true ↦ v | false ↦ f m ]
@@ -139,29 +105,4 @@ nothing = value (pos 0)
 
 -- no nodes, all slots free, the lowest first, depth and cycle 0
 unfoldable pub empty : Room → St
-empty r = record {
-  room = r;
-  size = 0;
-  used = 0;
-  kind = λ n. scope;
-  form = λ n. constant (pos 0);
-  owner = λ n. none;
-  gone = λ n. false;
-  level = λ n. 0;
-  fl = λ n. f0;
-  sto = λ n. nothing;
-  pend = λ n. nothing;
-  done = λ n. [];
-  rest = λ n. [];
-  subs = λ n. [];
-  live = λ l. false;
-  dep = λ l. 0;
-  sub = λ l. 0;
-  ver = λ l. 0;
-  free = below (r .slots) [];
-  queue = [];
-  depth = 0;
-  cycle = 0;
-  log = [];
-  stuck = false;
-}
+empty r = record { room = r; size = 0; used = 0; kind = λ n. scope; form = λ n. constant (pos 0); owner = λ n. none; gone = λ n. false; level = λ n. 0; fl = λ n. f0; sto = λ n. nothing; pend = λ n. nothing; done = λ n. []; rest = λ n. []; subs = λ n. []; live = λ l. false; dep = λ l. 0; sub = λ l. 0; ver = λ l. 0; free = below (r .slots) []; queue = []; depth = 0; cycle = 0; log = []; stuck = false }

@@ -10,7 +10,7 @@ use lib.ListN.{length}
 use Rattle.primitive.specs.declared.flags.Named.{Named}
 use Rattle.formula.specs.Trees.{Tree, size, nesting, names}
 use Rattle.formula.specs.Legal.{mostCells, mostNesting}
-use Rattle.meaning.specs.State.{St, Kind, signal, computed, effect, scope, Room, readable, rank, deps, f0, f1, f2, f17, f32, f33, f48, f49}
+use Rattle.meaning.specs.State.{St, Kind, signal, computed, effect, scope, Room, capacities, readable, rank, deps, f0, f1, f2, f17, f32, f33, f48, f49}
 use Rattle.meaning.specs.Engine.{levelOf}
 use Rattle.meaning.specs.Reserve.{reserve}
 use Rattle.meaning.specs.Refusals.{mostLevel, mostDepth}
@@ -69,6 +69,7 @@ pub record Limits (room : Room) (count used reserved : ℕ) (kind : ℕ → Kind
   pub nesting-low : (n : ℕ) → n < count → nesting (form n) ≤ mostNesting
   pub levels : (n : ℕ) → n < count → level n ≡ levelOf level (kind n) (form n) (owner n)
   pub level-low : (n : ℕ) → n < count → level n ≤ mostLevel (kind n)
+  pub room-within : capacities room ≡ true
   pub nodes-fit : count ≤ room .nodes
   pub cells-fit : used ≤ room .cells
   pub reserve-fits : reserved ≤ room .slots

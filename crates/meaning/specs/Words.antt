@@ -1,7 +1,7 @@
 -- Document 01, "Commands": the words of a command, and the cells of a formula, taken apart. Nothing else looks at words.
-use mathlib.Core.Bool.{Bool, true, false}
+use mathlib.Core.Bool.{true, false, cond}
 use mathlib.Core.List.{List, [], _∷_}
-use mathlib.Core.Option.{Option, none, some}
+use mathlib.Core.Option.{Option, none, some, Option·getD}
 use Prim.Native.Nat.{ℕ, zero, suc, _/_, _%_}
 use lib.Dec.{eqb, leb}
 use lib.IntN.{ℤ, pos, negsuc}
@@ -25,43 +25,32 @@ pub data Command : Type 0 where
   batchStart : Command
   batchEnd : Command
 
--- ---- how many words follow the code
-unfoldable pub noWord : Command → List ℤ → Option Command
+-- ---- the words that follow the code
+-- one more, and so on
+unfoldable pub word : {A : Type 0} → (ℤ → List ℤ → Option A) → List ℤ → Option A
+word f [] = none
+word f (x ∷ ws) = f x ws
+
+-- no more
+unfoldable pub noWord : {A : Type 0} → A → List ℤ → Option A
 noWord c [] = some c
 noWord c (x ∷ ws) = none
-
-unfoldable pub oneWord : (ℤ → Command) → List ℤ → Option Command
-oneWord c [] = none
-oneWord c (x ∷ ws) = noWord (c x) ws
-
-unfoldable pub twoWords : (ℤ → ℤ → Command) → List ℤ → Option Command
-twoWords c [] = none
-twoWords c (x ∷ ws) = oneWord (c x) ws
 
 unfoldable pub wholeCells : (List ℤ → Command) → List ℤ → Option Command
 wholeCells c ws = elim (eqb (length ws % 2) 0) [ true ↦ some (c ws) | false ↦ none ]
 
-unfoldable pub wordAndCells : (ℤ → List ℤ → Command) → List ℤ → Option Command
-wordAndCells c [] = none
-wordAndCells c (x ∷ ws) = wholeCells (c x) ws
-
--- the first where it is that code, else the second
-abbrev pub row : Bool → Option Command → Option Command → Option Command
-row true x y = x
-row false x y = y
-
 unfoldable pub codes : ℕ → List ℤ → Option Command
 codes c ws =
-    row (eqb c 1) (oneWord makeSignal ws)
-    (row (eqb c 2) (wholeCells makeComputed ws)
-    (row (eqb c 3) (wordAndCells makeEffect ws)
-    (row (eqb c 4) (oneWord makeScope ws)
-    (row (eqb c 5) (twoWords setTo ws)
-    (row (eqb c 6) (twoWords addTo ws)
-    (row (eqb c 7) (oneWord readOf ws)
-    (row (eqb c 8) (oneWord disposeOf ws)
-    (row (eqb c 9) (noWord batchStart ws)
-    (row (eqb c 10) (noWord batchEnd ws) none)))))))))
+    cond (eqb c 1) (word (λ v. noWord (makeSignal v)) ws)
+    (cond (eqb c 2) (wholeCells makeComputed ws)
+    (cond (eqb c 3) (word (λ o. wholeCells (makeEffect o)) ws)
+    (cond (eqb c 4) (word (λ o. noWord (makeScope o)) ws)
+    (cond (eqb c 5) (word (λ n. word (λ v. noWord (setTo n v))) ws)
+    (cond (eqb c 6) (word (λ n. word (λ d. noWord (addTo n d))) ws)
+    (cond (eqb c 7) (word (λ n. noWord (readOf n)) ws)
+    (cond (eqb c 8) (word (λ n. noWord (disposeOf n)) ws)
+    (cond (eqb c 9) (noWord batchStart ws)
+    (cond (eqb c 10) (noWord batchEnd ws) none)))))))))
 
 -- the command, if the code is known and the word count right
 unfoldable pub commandOf : List ℤ → Option Command
@@ -84,7 +73,7 @@ ownerOf (negsuc n) = none
 abbrev pub Part : Type 0
 Part = Option (Tree × List ℤ)
 
-unfoldable pub after : Part → (Tree → List ℤ → Part) → Part
+unfoldable pub after : {A : Type 0} → Part → (Tree → List ℤ → Option A) → Option A
 after none f = none
 after (some p) f = f (p .0) (p .1)
 
@@ -99,24 +88,12 @@ grown p Bad ws = none
 -- one expression of nesting at most k from the front, in prefix order
 unfoldable pub parse : ℕ → List ℤ → Part
 parse zero ws = none
-parse (suc k) [] = none
-parse (suc k) (c ∷ []) = none
-parse (suc k) (c ∷ o ∷ ws) = grown (parse k) (cellOf c o) ws
-
--- it is the whole
-unfoldable pub alone : Part → Option Tree
-alone none = none
-alone (some (t, [])) = some t
-alone (some (t, w ∷ ws)) = none
+parse (suc k) ws = word (λ c. word (λ o. grown (parse k) (cellOf c o))) ws
 
 -- 1 to 64 cells, exactly one expression, nesting at most 16
 unfoldable pub treeOf : List ℤ → Option Tree
-treeOf ws = elim (leb (length ws / 2) mostCells) [ true ↦ alone (parse mostNesting ws) | false ↦ none ]
+treeOf ws = elim (leb (length ws / 2) mostCells) [ true ↦ after (parse mostNesting ws) noWord | false ↦ none ]
 
 -- the formula of cells that are known to be one
-abbrev pub treeOr : Option Tree → Tree
-treeOr none = constant (pos 0)
-treeOr (some t) = t
-
 abbrev pub formulaOf : List ℤ → Tree
-formulaOf ws = treeOr (treeOf ws)
+formulaOf ws = Option·getD (treeOf ws) (constant (pos 0))

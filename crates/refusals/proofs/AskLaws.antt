@@ -5,20 +5,21 @@ use mathlib.Core.List.{List}
 use mathlib.Core.Option.{Option, none, some}
 use lib.IntN.{ℤ}
 use Rattle.meaning.specs.Words.{Command as Meant, ownerOf, commandOf}
-use Rattle.meaning.specs.Refusals.{Sight, Asks as Meanings, asksOf, on, wrongNamed, wrongOwner, wrongNode, isGone, goneNamed, goneNode, illegal, badFormula, treeIn, over, tooHigh, full, noRoom}
+use Rattle.meaning.specs.Refusals.{Sight, Asks as Meanings, asksOf, on, wrongOwner, wrongNode, isGone, goneNode, badFormula, treeIn, tooHigh, full, noRoom}
 use Rattle.refusals.specs.declared.commands.Command.{Command}
 use Rattle.refusals.specs.declared.asks.Asks.{Asks}
 use Rattle.refusals.specs.Sight.{kindOf}
 use Rattle.refusals.specs.Commands.{brief, told}
-use Rattle.refusals.specs.Asked.{taken, asked, nodeAsked, kindAsked, cellsAsked, seen, asksAbout}
+use Rattle.refusals.specs.Asked.{taken, asked, nodeAsked, kindAsked, cellsAsked, seen, asksAbout, wrongNamed, over, illegal}
 use Rattle.refusals.proofs.CommandLaws.{each, told-is}
 
-asks-same : (b : Command) (ws : List ℤ) → asksAbout (told b ws) ≡ seen (asked b) ws
+asks-same : (b : Command) (ws : List ℤ) → asksAbout (told b ws) ≡ seen (asked b) (told b ws) ws
 unfolding told asked asksOf kindOf
-asks-same b ws = each (λ (b : Command). asksAbout (told b ws) ≡ seen (asked b) ws) (λ k. refl) refl (λ o. refl) (λ o. refl) (λ n k. refl) (λ n k. refl) (λ n. refl) (λ n. refl) refl refl refl b
+asks-same b ws = each (λ (b : Command). asksAbout (told b ws) ≡ seen (asked b) (told b ws) ws) (λ k. refl) refl (λ o. refl) (λ o. refl) (λ n k. refl) (λ n k. refl) (λ n. refl) (λ n. refl) refl refl refl b
 
-pub asks-are : (ws : List ℤ) → asksAbout (commandOf ws) ≡ seen (asked (brief (commandOf ws))) ws
-asks-are ws = ap asksAbout (told-is ws) ∙ asks-same (brief (commandOf ws)) ws
+pub asks-are : (ws : List ℤ) → asksAbout (commandOf ws) ≡ seen (asked (brief (commandOf ws))) (commandOf ws) ws
+asks-are ws =
+    ap asksAbout (told-is ws) ∙ asks-same (brief (commandOf ws)) ws ∙ ap (λ (c : Option Meant). seen (asked (brief (commandOf ws))) c ws) (sym (told-is ws))
 
 -- ---- the rows by what is asked; nothing is asked of an unknown command
 module _ (v : Sight) where
@@ -27,7 +28,7 @@ module _ (v : Sight) where
   wrong-on none = refl
   wrong-on (some c) = refl
 
-  gone-on : (c : Option Meant) → on c (goneNode v) ≡ ((asksAbout c .ends && goneNamed v (asksAbout c .node)) || isGone v (asksAbout c .owner))
+  gone-on : (c : Option Meant) → on c (goneNode v) ≡ ((asksAbout c .ends && on (asksAbout c .node) (isGone v)) || isGone v (asksAbout c .owner))
   unfolding goneNode
   gone-on none = refl
   gone-on (some c) = refl
@@ -48,15 +49,15 @@ module _ (v : Sight) where
   room-on (some c) = refl
 
   -- a command that disposes names its node
-  ends-named : (b : Command) → (asked b .ends && goneNamed v (nodeAsked (asked b .names) (asked b .node))) ≡ (asked b .ends && isGone v (asked b .node))
+  ends-named : (b : Command) → (asked b .ends && on (nodeAsked (asked b .names) (asked b .node)) (isGone v)) ≡ (asked b .ends && isGone v (asked b .node))
   unfolding asked
   ends-named =
-      each (λ (b : Command). (asked b .ends && goneNamed v (nodeAsked (asked b .names) (asked b .node))) ≡ (asked b .ends && isGone v (asked b .node)))
+      each (λ (b : Command). (asked b .ends && on (nodeAsked (asked b .names) (asked b .node)) (isGone v)) ≡ (asked b .ends && isGone v (asked b .node)))
       (λ k. refl) refl (λ o. refl) (λ o. refl) (λ n k. refl) (λ n k. refl) (λ n. refl) (λ n. refl) refl refl refl
 
   module _ (ws : List ℤ) (a : Asks) (told : a ≡ asked (brief (commandOf ws))) where
-    asks-a : asksAbout (commandOf ws) ≡ seen a ws
-    asks-a = asks-are ws ∙ ap (λ (x : Asks). seen x ws) (sym told)
+    asks-a : asksAbout (commandOf ws) ≡ seen a (commandOf ws) ws
+    asks-a = asks-are ws ∙ ap (λ (x : Asks). seen x (commandOf ws) ws) (sym told)
 
     pub wrong-row : (wrongNamed v (taken (a .takes)) (nodeAsked (a .names) (a .node)) || wrongOwner v (a .owner)) ≡ on (commandOf ws) (wrongNode v)
     wrong-row = sym (wrong-on (commandOf ws) ∙ ap (λ (m : Meanings). wrongNamed v (m .takes) (m .node) || wrongOwner v (m .owner)) asks-a)
@@ -65,7 +66,7 @@ module _ (v : Sight) where
     gone-row =
         sym
         (gone-on (commandOf ws)
-        ∙ ap (λ (m : Meanings). (m .ends && goneNamed v (m .node)) || isGone v (m .owner)) (asks-are ws)
+        ∙ ap (λ (m : Meanings). (m .ends && on (m .node) (isGone v)) || isGone v (m .owner)) (asks-are ws)
         ∙ ap (λ (b : Bool). b || isGone v (asked (brief (commandOf ws)) .owner)) (ends-named (brief (commandOf ws)))
         ∙ ap (λ (x : Asks). (x .ends && isGone v (x .node)) || isGone v (x .owner)) (sym told))
 

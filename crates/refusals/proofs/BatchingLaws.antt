@@ -9,7 +9,7 @@ use lib.ListN.{getD}
 use borrow.Author.Tests.{eq-eqb, ne-eqb, le-ltb}
 use Rattle.counts.specs.Counts.{liveEffectsIn}
 use Rattle.meaning.specs.Words.{commandOf}
-use Rattle.meaning.specs.Refusals.{on, flushRows, fewRows}
+use Rattle.meaning.specs.Refusals.{on, flushRows, asksOf, fewRows}
 use Rattle.refusals.specs.declared.commands.Command.{Command}
 use Rattle.refusals.specs.Sight.{nodesAlone, sightIn}
 use Rattle.refusals.specs.Commands.{brief, told}
@@ -25,7 +25,7 @@ module _ (nodes : List ℕ) (d : ℕ) {e : ℕ} (depth : e ≡ getD nodes 9 0) w
 
 module _ (nodes : List ℕ) (rows : ℕ) where
   few-told : (b : Command) (ws : List ℤ) → ltb rows (wanted (nodesAlone nodes) b) ≡ on (told b ws) (fewRows (sightIn nodes [] [] rows))
-  unfolding told fewRows wanted
+  unfolding told fewRows asksOf wanted
   few-told b ws =
       let z : 0 ≤ rows = omega arith in
       each (λ (b : Command). ltb rows (wanted (nodesAlone nodes) b) ≡ on (told b ws) (fewRows (sightIn nodes [] [] rows)))

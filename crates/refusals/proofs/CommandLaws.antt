@@ -1,6 +1,6 @@
 -- The words of a command, by what the code finds on its way; and the command in full from the code's enum and the words. Assumes nothing.
 use mathlib.Core.Path.{_≡_, refl, sym, ap, _∙_, subst}
-use mathlib.Core.Bool.{Bool, true, false}
+use mathlib.Core.Bool.{Bool, true, false, cond}
 use mathlib.Core.List.{List, [], _∷_}
 use mathlib.Core.Option.{Option, none, some}
 use Prim.Native.Nat.{ℕ, suc, _%_, _≤_}
@@ -13,7 +13,7 @@ use Rattle.formula.specs.declared.cells.Number.{Number}
 use Rattle.formula.specs.declared.cells.Number.the-variants.{Is, None}
 use Rattle.formula.specs.Cells.{naturalOf}
 use Rattle.formula.proofs.CellLaws.{natural-pos, natural-neg}
-use Rattle.meaning.specs.Words.{Command as Meant, makeSignal, makeComputed, makeEffect, makeScope, setTo, addTo, readOf, disposeOf, batchStart, batchEnd, noWord, oneWord, twoWords, wholeCells, wordAndCells, row, codes, commandOf}
+use Rattle.meaning.specs.Words.{Command as Meant, makeSignal, makeComputed, makeEffect, makeScope, setTo, addTo, readOf, disposeOf, batchStart, batchEnd, word, noWord, wholeCells, codes, commandOf}
 use Rattle.refusals.specs.declared.commands.Command.{Command}
 use Rattle.refusals.specs.declared.commands.Command.the-variants.{Signal, Computed, Effect, Scope, Set, Add, Read, Dispose, Start, End, Unknown}
 use Rattle.refusals.specs.Commands.{onlyIf, brief, told}
@@ -36,6 +36,15 @@ each P p₁ p₂ p₃ p₄ p₅ p₆ p₇ p₈ p₉ p₁₀ p₀ End = p₁₀
 each P p₁ p₂ p₃ p₄ p₅ p₆ p₇ p₈ p₉ p₁₀ p₀ Unknown = p₀
 
 -- ---- how many words follow the code
+abbrev oneWord : (ℤ → Meant) → List ℤ → Option Meant
+oneWord f rest = word (λ x. noWord (f x)) rest
+
+abbrev twoWords : (ℤ → ℤ → Meant) → List ℤ → Option Meant
+twoWords f rest = word (λ x. oneWord (f x)) rest
+
+abbrev wordAndCells : (ℤ → List ℤ → Meant) → List ℤ → Option Meant
+wordAndCells f rest = word (λ x. wholeCells (f x)) rest
+
 module _ (w : ℤ) where
   no-word : (f : Meant) (g : Command) → brief (some f) ≡ g → (rest : List ℤ) → onlyIf (eqb (length (w ∷ rest)) 1) g ≡ brief (noWord f rest)
   unfolding brief noWord
@@ -44,14 +53,14 @@ module _ (w : ℤ) where
 
   one-word : (f : ℤ → Meant) (g : ℤ → Command) → ((x : ℤ) → brief (some (f x)) ≡ g x) → (rest : List ℤ)
       → onlyIf (eqb (length (w ∷ rest)) 2) (g (getD (w ∷ rest) 1 (pos 0))) ≡ brief (oneWord f rest)
-  unfolding brief oneWord noWord
+  unfolding brief word noWord
   one-word f g h [] = refl
   one-word f g h (x ∷ []) = sym (h x)
   one-word f g h (x ∷ y ∷ zs) = let d : suc (suc (suc (length zs))) ≡ 2 → ⊥ = λ e. omega arith in rw (ne-eqb (suc (suc (suc (length zs)))) 2 d)
 
   two-words : (f : ℤ → ℤ → Meant) (g : ℤ → ℤ → Command) → ((x y : ℤ) → brief (some (f x y)) ≡ g x y) → (rest : List ℤ)
       → onlyIf (eqb (length (w ∷ rest)) 3) (g (getD (w ∷ rest) 1 (pos 0)) (getD (w ∷ rest) 2 (pos 0))) ≡ brief (twoWords f rest)
-  unfolding brief twoWords oneWord noWord
+  unfolding brief word noWord
   two-words f g h [] = refl
   two-words f g h (x ∷ []) = refl
   two-words f g h (x ∷ y ∷ []) = sym (h x y)
@@ -68,7 +77,7 @@ module _ (w : ℤ) where
       go false e = let q = eqb-false (length rest % 2) 0 e in rw (ne-eqb (suc (length rest) % 2) 1 (λ p. q (omega arith)))
 
   word-and-whole : (rest : List ℤ) → onlyIf (eqb (length (w ∷ rest) % 2) 0) (Effect (getD (w ∷ rest) 1 (pos 0))) ≡ brief (wordAndCells makeEffect rest)
-  unfolding brief wordAndCells wholeCells
+  unfolding brief word wholeCells
   word-and-whole [] = refl
   word-and-whole (x ∷ rest) = go (eqb (length rest % 2) 0) refl
     where
@@ -166,12 +175,12 @@ module _ (w : ℤ) where
   kept-no f ws h (x ∷ zs) = kept-none ws
 
   kept-one : (f : ℤ → Meant) (ws : List ℤ) → ((x : ℤ) → Kept ws (some (f x))) → (rest : List ℤ) → Kept ws (oneWord f rest)
-  unfolding oneWord
+  unfolding word
   kept-one f ws h [] = kept-none ws
   kept-one f ws h (x ∷ rest) = kept-no (f x) ws (h x) rest
 
   kept-two : (f : ℤ → ℤ → Meant) (ws : List ℤ) → ((x y : ℤ) → Kept ws (some (f x y))) → (rest : List ℤ) → Kept ws (twoWords f rest)
-  unfolding twoWords
+  unfolding word
   kept-two f ws h [] = kept-none ws
   kept-two f ws h (x ∷ rest) = kept-one (f x) ws (h x) rest
 
@@ -184,11 +193,11 @@ module _ (w : ℤ) where
       go false = kept-none ws
 
   kept-effect : (rest : List ℤ) → Kept (w ∷ rest) (wordAndCells makeEffect rest)
-  unfolding wordAndCells brief told asked
+  unfolding word brief told asked
   kept-effect [] = kept-none (w ∷ [])
   kept-effect (x ∷ rest) = kept-whole (makeEffect x) (w ∷ x ∷ rest) rest record { same = refl; inside = omega arith }
 
-  kept-row : (ws : List ℤ) (b : Bool) (x y : Option Meant) → Kept ws x → Kept ws y → Kept ws (row b x y)
+  kept-row : (ws : List ℤ) (b : Bool) (x y : Option Meant) → Kept ws x → Kept ws y → Kept ws (cond b x y)
   kept-row ws true x y p q = p
   kept-row ws false x y p q = q
 

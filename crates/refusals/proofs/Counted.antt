@@ -1,21 +1,38 @@
--- The counts are those of `meaning`: where the words of a node tell its kind, formula and owner, it counts as much, and so do sums over nodes. Assumes nothing.
+-- The capacities and counts are those of `meaning`: where the words of a node tell its kind, formula and owner, it counts as much, and so do sums over nodes. Assumes nothing.
 use mathlib.Core.Path.{_≡_, refl, sym, ap, ap₂, _∙_}
-use mathlib.Core.Bool.{Bool, true, false, not}
+use mathlib.Core.Bool.{Bool, true, false, not, _&&_}
 use mathlib.Core.List.{List}
 use mathlib.Core.Option.{Option, none, some}
-use Prim.Native.Nat.{ℕ, zero, suc, _+_, _*_, _<_}
+use Prim.Native.Nat.{ℕ, zero, suc, _+_, _*_, _<_, _≤_}
 use native.Mathlib.Omega.{arith}
 use lib.Dec.{eqb}
+use lib.IntN.{ℤ}
 use lib.ListN.{length}
-use borrow.Author.Tests.{eqb-true}
+use borrow.Author.Tests.{eqb-true, ne-eqb, le-leb}
 use Rattle.primitive.specs.Words.{KIND, GONE, READS, OWNER, SIGNAL, COMPUTED, EFFECT, node}
 use Rattle.formula.specs.Trees.{Tree, names}
-use Rattle.counts.specs.Counts.{total, row, ownedLink, reserveOf, effectOf}
-use Rattle.meaning.specs.State.{Kind, signal, computed, effect, scope}
-use Rattle.meaning.specs.Reserve.{total as totalOf, ownedLink as ownedLinkOf, unlessGone, reserveOf as reserveFrom}
-use Rattle.meaning.specs.Refusals.{effectOf as effectFrom}
-use Rattle.refusals.specs.Sight.{either, kindOf}
+use Rattle.lists.specs.Sum.{bit, sum}
+use Rattle.counts.specs.Counts.{nodeRoom, slotRoom, cellRoom, mostNodes, mostSlots, mostCellRoom, withinMost, withinAll, total, row, ownedLink, reserveOf, effectOf}
+use Rattle.meaning.specs.State.{Kind, signal, computed, effect, scope, within, capacities}
+use Rattle.meaning.specs.Marks.{isEffect}
+use Rattle.meaning.specs.Reserve.{ownedLink as ownedLinkOf, reserveOf as reserveFrom}
+use Rattle.refusals.specs.Sight.{either, kindOf, roomIn}
 
+-- ---- capacities
+within-same : (most n : ℕ) → withinMost most n ≡ within n most
+unfolding withinMost
+within-same most zero = refl
+within-same most (suc n) =
+    let d : suc n ≡ 0 → ⊥ = λ e. omega arith in
+    let l : 1 ≤ suc n = omega arith in
+    rw (ne-eqb (suc n) 0 d, le-leb 1 (suc n) l)
+
+pub room-same : (nodes links : List ℕ) (cells : List ℤ) → withinAll nodes links cells ≡ capacities (roomIn nodes links cells)
+unfolding withinAll
+room-same nodes links cells =
+    ap₂ _&&_ (within-same mostNodes (nodeRoom nodes)) (ap₂ _&&_ (within-same mostSlots (slotRoom links)) (within-same mostCellRoom (cellRoom cells)))
+
+-- ---- counts
 -- an owner word: 0 if there is none, else the owner's number and 1
 abbrev pub ownerWord : Option ℕ → ℕ
 ownerWord none = 0
@@ -58,29 +75,29 @@ module _ (nodes : List ℕ) (n : ℕ) where
       go false false false true r = u
       go false false false false r = refl
 
-  pub effect-same : effectOf nodes n ≡ effectFrom kind gone
+  pub effect-same : effectOf nodes n ≡ bit (isEffect kind && not gone)
   unfolding effectOf kindOf
   effect-same = go (eqb (node nodes n KIND) EFFECT) refl
     where
-      live : (l : Bool) → row l 1 0 ≡ unlessGone (not l) 1
+      live : (l : Bool) → row l 1 0 ≡ bit (not (not l))
       live true = refl
       live false = refl
 
-      other : (s c : Bool) (g : Bool) → 0 ≡ effectFrom (either s signal (either c computed scope)) g
+      other : (s c : Bool) (g : Bool) → 0 ≡ bit (isEffect (either s signal (either c computed scope)) && not g)
       other true c g = refl
       other false true g = refl
       other false false g = refl
 
-      go : (e : Bool) → eqb (node nodes n KIND) EFFECT ≡ e → row e (row (eqb (node nodes n GONE) 0) 1 0) 0 ≡ effectFrom kind gone
+      go : (e : Bool) → eqb (node nodes n KIND) EFFECT ≡ e → row e (row (eqb (node nodes n GONE) 0) 1 0) 0 ≡ bit (isEffect kind && not gone)
       go true q =
           let k : node nodes n KIND ≡ EFFECT = eqb-true (node nodes n KIND) EFFECT q in
-          live (eqb (node nodes n GONE) 0) ∙ ap (λ (w : ℕ). effectFrom (kindOf w) gone) (sym k)
+          live (eqb (node nodes n GONE) 0) ∙ ap (λ (w : ℕ). bit (isEffect (kindOf w) && not gone)) (sym k)
       go false q =
           other (eqb (node nodes n KIND) SIGNAL) (eqb (node nodes n KIND) COMPUTED) gone
-          ∙ ap (λ (b : Bool). effectFrom (either (eqb (node nodes n KIND) SIGNAL) signal (either (eqb (node nodes n KIND) COMPUTED) computed (either b effect scope))) gone) (sym q)
+          ∙ ap (λ (b : Bool). bit (isEffect (either (eqb (node nodes n KIND) SIGNAL) signal (either (eqb (node nodes n KIND) COMPUTED) computed (either b effect scope))) && not gone)) (sym q)
 
 -- sums of what agrees agree
-pub total-same : (f g : ℕ → ℕ) (n : ℕ) → ((m : ℕ) → m < n → f m ≡ g m) → total f n ≡ totalOf g n
-unfolding total totalOf
+pub total-same : (f g : ℕ → ℕ) (n : ℕ) → ((m : ℕ) → m < n → f m ≡ g m) → total f n ≡ sum g n
+unfolding total sum
 total-same f g zero h = refl
 total-same f g (suc n) h = ap₂ _+_ (total-same f g n (λ m l. h m (omega arith))) (h n (omega arith))

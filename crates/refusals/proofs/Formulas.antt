@@ -2,7 +2,7 @@
 use mathlib.Core.Path.{_≡_, refl, sym, ap, ap₂, _∙_, subst}
 use mathlib.Core.Bool.{Bool, true, false, _&&_}
 use mathlib.Core.List.{List, [], _∷_}
-use mathlib.Core.Option.{Option, none, some}
+use mathlib.Core.Option.{Option, none, some, Option·getD}
 use Prim.Native.Nat.{ℕ, suc, _*_, _/_, max}
 use native.Mathlib.Omega.{arith}
 use lib.Dec.{T, eqb, ltb}
@@ -10,18 +10,19 @@ use lib.IntN.{ℤ, pos}
 use lib.ListN.{length, getD}
 use borrow.Author.Tests.{not-false}
 use Rattle.primitive.specs.Words.{COUNT, KIND, LEVEL, SIGNAL, COMPUTED, EFFECT, node}
-use Rattle.formula.specs.Trees.{Tree, written, size, names}
+use Rattle.formula.specs.Trees.{Tree, constant, written, size, names}
 use Rattle.formula.specs.Legal.{readKind, readableIn, AllReadable, legalIn}
 use Rattle.formula.specs.Names.{allNamed, readCells, tallest, tallestIn, heightIn}
 use Rattle.formula.proofs.Written.{length-written}
 use Rattle.formula.proofs.Ends.{all-named}
 use Rattle.formula.proofs.Exact.{legal-sound, legal-complete}
 use Rattle.meaning.specs.State.{signal, computed, effect, scope, readable}
-use Rattle.meaning.specs.Words.{treeOf, treeOr, formulaOf}
+use Rattle.meaning.specs.Words.{treeOf, formulaOf}
 use Rattle.meaning.specs.Engine.{tallest as tallestOf, heightOf}
-use Rattle.meaning.specs.Refusals.{isA, allReadable, legalTree, illegal}
+use Rattle.meaning.specs.Refusals.{on, isA, allReadable, legalCells}
 use Rattle.meaning.proofs.Formulas.{tree-exact}
 use Rattle.refusals.specs.Sight.{either, kindOf, nodesAlone}
+use Rattle.refusals.specs.Asked.{illegal}
 
 -- ---- Booleans
 f≢t : {C : Type 0} → false ≡ true → C
@@ -69,17 +70,20 @@ module _ (nodes : List ℕ) where
   known-all (n ∷ ns) h = ap₂ _&&_ (a-readable n ∙ h .0) (known-all ns (h .1))
 
   -- ---- the code's test is that of `meaning`
-  pub legal-same : (cs : List ℤ) → legalIn nodes cs ≡ legalTree (nodesAlone nodes) (treeOf cs)
-  legal-same cs = same-truth (legalIn nodes cs) (legalTree (nodesAlone nodes) (treeOf cs)) there (back (treeOf cs) refl)
+  abbrev legalTree : Option Tree → Bool
+  legalTree o = on o (λ t. allReadable (nodesAlone nodes) (names t))
+
+  pub legal-same : (cs : List ℤ) → legalIn nodes cs ≡ legalCells (nodesAlone nodes) cs
+  legal-same cs = same-truth (legalIn nodes cs) (legalCells (nodesAlone nodes) cs) there (back (treeOf cs) refl)
     where
-      there : legalIn nodes cs ≡ true → legalTree (nodesAlone nodes) (treeOf cs) ≡ true
+      there : legalIn nodes cs ≡ true → legalCells (nodesAlone nodes) cs ≡ true
       there e =
           let l = legal-sound nodes cs e in
           let f = l .1 in
           let t : treeOf cs ≡ some (l .0) = tree-exact cs (l .0) .1 (record { spelt = f .spelt; few = f .few; shallow = f .shallow }) in
-          ap (legalTree (nodesAlone nodes)) t ∙ known-all (names (l .0)) (f .known)
+          ap legalTree t ∙ known-all (names (l .0)) (f .known)
 
-      back : (o : Option Tree) → treeOf cs ≡ o → legalTree (nodesAlone nodes) o ≡ true → legalIn nodes cs ≡ true
+      back : (o : Option Tree) → treeOf cs ≡ o → legalTree o ≡ true → legalIn nodes cs ≡ true
       back none e h = f≢t h
       back (some t) e h =
           let w = tree-exact cs t .0 e in
@@ -88,14 +92,14 @@ module _ (nodes : List ℕ) where
   -- ---- the tree of a legal formula
   module _ (cs : List ℤ) (legal : illegal (nodesAlone nodes) (some cs) ≡ false) where
     found : (t : Tree) × (treeOf cs ≡ some t)
-    found = go (treeOf cs) refl (not-false (legalTree (nodesAlone nodes) (treeOf cs)) legal)
+    found = go (treeOf cs) refl (not-false (legalCells (nodesAlone nodes) cs) legal)
       where
-        go : (o : Option Tree) → treeOf cs ≡ o → legalTree (nodesAlone nodes) o ≡ true → (t : Tree) × (treeOf cs ≡ some t)
+        go : (o : Option Tree) → treeOf cs ≡ o → legalTree o ≡ true → (t : Tree) × (treeOf cs ≡ some t)
         go none e h = f≢t h
         go (some t) e h = (t, e)
 
     spelt : cs ≡ written (formulaOf cs)
-    spelt = tree-exact cs (found .0) .0 (found .1) .spelt ∙ ap (λ (o : Option Tree). written (treeOr o)) (sym (found .1))
+    spelt = tree-exact cs (found .0) .0 (found .1) .spelt ∙ ap (λ (o : Option Tree). written (Option·getD o (constant (pos 0)))) (sym (found .1))
 
     pub tree-names : names (formulaOf cs) ≡ allNamed cs
     tree-names = sym (all-named (formulaOf cs)) ∙ ap allNamed (sym spelt)

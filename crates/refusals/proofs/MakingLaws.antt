@@ -24,12 +24,12 @@ use Rattle.meaning.specs.State.{Kind, signal, computed, effect, scope}
 use Rattle.meaning.specs.Words.{ownerOf, formulaOf, commandOf}
 use Rattle.meaning.specs.Engine.{depthUnder, cellsOf}
 use Rattle.meaning.specs.Reserve.{ownedLink, reserveFor, reserveOf}
-use Rattle.meaning.specs.Refusals.{Sight, mostHeight, mostOwnerDepth, on, illegal, badFormula, treeIn, over, tooHigh, full, noRoom}
+use Rattle.meaning.specs.Refusals.{Sight, mostHeight, mostOwnerDepth, on, badFormula, treeIn, tooHigh, full, noRoom}
 use Rattle.refusals.specs.declared.commands.Command.{Command}
 use Rattle.refusals.specs.Sight.{kindOf, nodesAlone, sightIn}
 use Rattle.refusals.specs.Commands.{brief}
 use Rattle.refusals.specs.declared.asks.Asks.{Asks}
-use Rattle.refusals.specs.Asked.{asked, kindAsked, cellsAsked, fromOr, cellsFrom, formulaIn}
+use Rattle.refusals.specs.Asked.{asked, kindAsked, cellsAsked, over, illegal, fromOr, cellsFrom, formulaIn}
 use Rattle.refusals.proofs.CommandLaws.{each}
 use Rattle.refusals.proofs.AskLaws.{bad-row, high-row, room-row}
 use Rattle.refusals.proofs.Formulas.{legal-same, tree-size, tree-reads, tree-height}

@@ -9,8 +9,9 @@ use lib.IntN.{ℤ, pos, negsuc}
 use Rattle.formula.specs.Trees.{Tree, names}
 use Rattle.meaning.specs.State.{Kind, readable}
 use Rattle.meaning.specs.Words.{Command as Meant, makeSignal, makeComputed, makeEffect, makeScope, setTo, addTo, readOf, disposeOf, batchStart, batchEnd, ownerOf, treeOf}
-use Rattle.meaning.specs.Refusals.{Sight, asksOf, on, anOwner, isA, wrongNamed, wrongOwner, wrongNode, isGone, goneNamed, goneNode, allReadable, legalTree, illegal, badFormula, treeIn, over, tooHigh, full, noRoom, wrongDepth, wantedRows, fewRows}
+use Rattle.meaning.specs.Refusals.{Sight, asksOf, on, anOwner, isA, wrongOwner, wrongNode, isGone, goneNode, allReadable, badFormula, treeIn, tooHigh, full, noRoom, wrongDepth, fewRows}
 use Rattle.refusals.specs.Sight.{nodesAlone, sightIn}
+use Rattle.refusals.specs.Asked.{wrongNamed, over, illegal}
 
 module _ (nodes links : List ℕ) (cells : List ℤ) (rows : ℕ) where
   abbrev v : Sight
@@ -44,7 +45,7 @@ module _ (nodes links : List ℕ) (cells : List ℤ) (rows : ℕ) where
   is-gone-sees (pos n) = refl
   is-gone-sees (negsuc n) = refl
 
-  gone-named-sees : (o : Option ℤ) → goneNamed v o ≡ goneNamed w o
+  gone-named-sees : (o : Option ℤ) → on o (isGone v) ≡ on o (isGone w)
   gone-named-sees none = refl
   gone-named-sees (some z) = is-gone-sees z
 
@@ -59,7 +60,7 @@ module _ (nodes links : List ℕ) (cells : List ℤ) (rows : ℕ) where
   readable-sees [] = refl
   readable-sees (n ∷ ns) = ap₂ _&&_ (a-sees readable (pos n)) (readable-sees ns)
 
-  legal-sees : (o : Option Tree) → legalTree v o ≡ legalTree w o
+  legal-sees : (o : Option Tree) → on o (λ t. allReadable v (names t)) ≡ on o (λ t. allReadable w (names t))
   legal-sees none = refl
   legal-sees (some t) = readable-sees (names t)
 
@@ -96,19 +97,11 @@ module _ (nodes links : List ℕ) (cells : List ℤ) (rows : ℕ) where
   pub depth-sees : (c : Option Meant) → on c (wrongDepth v) ≡ on c (wrongDepth w)
   unfolding wrongDepth
   depth-sees none = refl
-  depth-sees (some (makeSignal k)) = refl
-  depth-sees (some (makeComputed cs)) = refl
-  depth-sees (some (makeEffect o cs)) = refl
-  depth-sees (some (makeScope o)) = refl
-  depth-sees (some (setTo n k)) = refl
-  depth-sees (some (addTo n k)) = refl
-  depth-sees (some (readOf n)) = refl
-  depth-sees (some (disposeOf n)) = refl
-  depth-sees (some batchStart) = refl
-  depth-sees (some batchEnd) = refl
+  depth-sees (some c) = refl
 
   -- ---- 9
-  wanted-sees : (c : Meant) → wantedRows v c ≡ wantedRows (sightIn nodes [] [] rows) c
+  wanted-sees : (c : Meant) → asksOf c .rows v ≡ asksOf c .rows (sightIn nodes [] [] rows)
+  unfolding asksOf
   wanted-sees (makeSignal k) = refl
   wanted-sees (makeComputed cs) = refl
   wanted-sees (makeEffect o cs) = refl

@@ -1,14 +1,17 @@
 -- What a command asks, as the code's record tells it, beside `asksOf` of `meaning`.
-use mathlib.Core.Bool.{Bool, true, false}
+use mathlib.Core.Bool.{Bool, true, false, not}
 use mathlib.Core.List.{List}
 use mathlib.Core.Option.{Option, none, some}
 use Prim.Native.Nat.{ℕ, zero, suc}
+use lib.Dec.{ltb}
 use lib.IntN.{ℤ, pos, negsuc}
 use lib.ListN.{length, drop}
 use Rattle.primitive.specs.Words.{SIGNAL, COMPUTED, EFFECT, SCOPE}
+use Rattle.formula.specs.Trees.{Tree}
 use Rattle.meaning.specs.State.{Kind, readable}
 use Rattle.meaning.specs.Words.{Command as Meant, commandOf}
-use Rattle.meaning.specs.Refusals.{Sight, Asks as Meanings, aSignal, anOwner, asks-nothing, asksOf, flushRows}
+use Rattle.meaning.specs.Refusals.{Sight, Asks as Meanings, aSignal, anOwner, batches, asksOf, flushRows, on, mostLevel, isA, legalCells}
+use Rattle.meaning.specs.Engine.{levelOf}
 use Rattle.refusals.specs.declared.commands.Command.{Command}
 use Rattle.refusals.specs.declared.commands.Command.the-variants.{Signal, Computed, Effect, Scope, Set, Add, Read, Dispose, Start, End, Unknown}
 use Rattle.refusals.specs.declared.asks.Takes.{Takes}
@@ -56,20 +59,33 @@ abbrev pub cellsAsked : ℕ → List ℤ → Option (List ℤ)
 cellsAsked zero ws = none
 cellsAsked (suc n) ws = some (drop (suc n) ws)
 
-abbrev pub seen : Asks → List ℤ → Meanings
-seen a ws = record {
+-- an unknown command asks nothing
+abbrev pub asksAbout : Option Meant → Meanings
+asksAbout none = batches (λ d. false) (λ v. 0)
+asksAbout (some c) = asksOf c
+
+-- depths and rows are told by the command itself
+abbrev pub seen : Asks → Option Meant → List ℤ → Meanings
+seen a c ws = record {
   node = nodeAsked (a .names) (a .node);
   takes = taken (a .takes);
   ends = a .ends;
   makes = kindAsked (a .makes);
   owner = a .owner;
   cells = cellsAsked (a .from) ws;
+  barred = asksAbout c .barred;
+  rows = asksAbout c .rows;
 }
 
--- an unknown command asks nothing
-abbrev pub asksAbout : Option Meant → Meanings
-asksAbout none = asks-nothing
-asksAbout (some c) = asksOf c
+-- what is named is unknown, or of a kind that is not taken
+abbrev pub wrongNamed : Sight → (Kind → Bool) → Option ℤ → Bool
+wrongNamed v p o = on o (λ n. not (isA v p n))
+
+abbrev pub over : Sight → Option Kind → Tree → Option ℕ → Bool
+over v m t o = on m (λ k. ltb (mostLevel k) (levelOf (v .level) k t o))
+
+abbrev pub illegal : Sight → Option (List ℤ) → Bool
+illegal v o = on o (λ cs. not (legalCells v cs))
 
 -- where the cells of the formula begin; at the end of the words if there is none
 abbrev pub fromOr : ℕ → ℕ → ℕ

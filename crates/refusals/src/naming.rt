@@ -16,9 +16,9 @@ ghost use mathlib.Core.Path.{_≡_};
 ghost use mathlib.Core.Bool.{_&&_};
 ghost use Rattle.meaning.specs.State.{readable};
 ghost use Rattle.meaning.specs.Words.{commandOf};
-ghost use Rattle.meaning.specs.Refusals.{on, unknown, isA, wrongNamed, wrongOwner, wrongNode, isGone, goneNode};
+ghost use Rattle.meaning.specs.Refusals.{on, unknown, isA, wrongOwner, wrongNode, isGone, goneNode};
 ghost use Rattle.refusals.specs.Sight.{kindOf, nodesAlone};
-ghost use Rattle.refusals.specs.Asked.{taken, nodeAsked};
+ghost use Rattle.refusals.specs.Asked.{taken, nodeAsked, wrongNamed};
 
 // 2: unknown command code or wrong word count.
 pub fn unknown(words: &[i64]) -> bool

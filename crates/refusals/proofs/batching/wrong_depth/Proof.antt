@@ -4,7 +4,7 @@ use Prim.Native.Nat.{ℕ}
 use lib.Dec.{eqb, leb}
 use Rattle.refusals.specs.Commands.{told}
 use Rattle.refusals.proofs.CommandLaws.{is-told}
-use Rattle.meaning.specs.Refusals.{wrongDepth}
+use Rattle.meaning.specs.Refusals.{asksOf, wrongDepth}
 use borrow.Author.Needs.{needs}
 use Rattle.refusals.proofs.batching.wrong_depth.Statement.{statement}
 use Rattle.refusals.proofs.batching.wrong_depth.Tie as tie
@@ -49,47 +49,47 @@ enum-told-11 : tie.Need-enum-told-11
 enum-told-11 c = search needs
 
 returns : tie.Need-returns
-unfolding told wrongDepth
+unfolding told wrongDepth asksOf
 returns c = rw (is-told _ (c .before .before .command-of .ensures) (c .enum-told .given .1))
 
 returns-2 : tie.Need-returns-2
-unfolding told wrongDepth
+unfolding told wrongDepth asksOf
 returns-2 c = rw (is-told _ (c .before .before .command-of .ensures) (c .enum-told2 .given .1))
 
 returns-3 : tie.Need-returns-3
-unfolding told wrongDepth
+unfolding told wrongDepth asksOf
 returns-3 c = rw (is-told _ (c .before .before .command-of .ensures) (c .enum-told3 .given .1))
 
 returns-4 : tie.Need-returns-4
-unfolding told wrongDepth
+unfolding told wrongDepth asksOf
 returns-4 c = rw (is-told _ (c .before .before .command-of .ensures) (c .enum-told4 .given .1))
 
 returns-5 : tie.Need-returns-5
-unfolding told wrongDepth
+unfolding told wrongDepth asksOf
 returns-5 c = rw (is-told _ (c .before .before .command-of .ensures) (c .enum-told5 .given .1))
 
 returns-6 : tie.Need-returns-6
-unfolding told wrongDepth
+unfolding told wrongDepth asksOf
 returns-6 c = rw (is-told _ (c .before .before .command-of .ensures) (c .enum-told6 .given .1))
 
 returns-7 : tie.Need-returns-7
-unfolding told wrongDepth
+unfolding told wrongDepth asksOf
 returns-7 c = rw (is-told _ (c .before .before .command-of .ensures) (c .enum-told7 .given .1))
 
 returns-8 : tie.Need-returns-8
-unfolding told wrongDepth
+unfolding told wrongDepth asksOf
 returns-8 c = rw (is-told _ (c .before .before .command-of .ensures) (c .enum-told8 .given .1))
 
 returns-9 : tie.Need-returns-9
-unfolding told wrongDepth
+unfolding told wrongDepth asksOf
 returns-9 c = rw (is-told _ (c .before .before .command-of .ensures) (c .enum-told9 .given .1)) (ap (leb 64) (c .before .before .before .at .ensures))
 
 returns-10 : tie.Need-returns-10
-unfolding told wrongDepth
+unfolding told wrongDepth asksOf
 returns-10 c = rw (is-told _ (c .before .before .command-of .ensures) (c .enum-told10 .given .1)) (ap (λ (x : ℕ). eqb x 0) (c .before .before .before .at .ensures))
 
 returns-11 : tie.Need-returns-11
-unfolding told wrongDepth
+unfolding told wrongDepth asksOf
 returns-11 c = rw (is-told _ (c .before .before .command-of .ensures) (c .enum-told11 .given .1))
 
 pub wrong-depth-spec : {M : Type 1} → statement M

@@ -1,0 +1,164 @@
+-- What document 01 says of an accepted command, from any well-formed tables: the theorems to read. Their labour stands elsewhere. Assumes nothing.
+-- Beside them: `command-kept`, `never-stuck` (Accepted), `command-stays` (Kept), `links-bound` (Bound), `given-exactly`, `refused-unchanged` (Refused), and the laws of Steps.
+use mathlib.Core.Path.{_≡_, refl, sym, _∙_, subst}
+use mathlib.Core.Logic.{_⊎_, _↔_}
+use mathlib.Core.Bool.{true, false}
+use mathlib.Core.List.{List, [], _∷_}
+use mathlib.Core.Option.{some}
+use Prim.Native.Nat.{ℕ, suc, _+_, _≤_, _<_}
+use native.Mathlib.Omega.{arith}
+use lib.Dec.{leb, ltb}
+use lib.IntN.{ℤ, pos}
+use lib.ListN.{length, drop}
+use borrow.Author.Tests.{leb-false, ltb-false}
+use Rattle.primitive.specs.declared.values.Value.{Value}
+use Rattle.meaning.specs.State.{St, Row, signal, computed, readable, deps, unclean, f2, f17}
+use Rattle.meaning.specs.Setters.{withQueue, withDepth, setFl, setPend}
+use Rattle.meaning.specs.Links.{several, cut, unlink}
+use Rattle.meaning.specs.Marks.{Marks, marksOf, notify, prop, propagate}
+use Rattle.meaning.specs.Words.{Command, disposeOf, commandOf}
+use Rattle.meaning.specs.Reserve.{total, reserveOf, reserve}
+use Rattle.meaning.specs.Refusals.{sightOf, asksOf}
+use Rattle.meaning.specs.WellFormed.{In, Once, WellFormed}
+use Rattle.meaning.specs.Reach.{Reached}
+use Rattle.meaning.specs.Owners.{Below}
+use Rattle.meaning.specs.Moments.{flushing}
+use Rattle.meaning.specs.Commands.{Answer, command, runs}
+use Rattle.meaning.proofs.Laws.{clash, either}
+use Rattle.meaning.proofs.Rings.{Runs}
+use Rattle.meaning.proofs.Still.{given}
+use Rattle.meaning.proofs.Flush.{whos}
+use Rattle.meaning.proofs.Performed.{known, rows-are}
+use Rattle.meaning.proofs.Stuck.{stack-full, queue-full}
+use Rattle.meaning.proofs.Inside.{nobody, static, rest-inside}
+use Rattle.meaning.proofs.Room.{liveLinks, room-at-rest}
+use Rattle.meaning.proofs.Frames.{others}
+use Rattle.meaning.proofs.Kept.{command-stays}
+use Rattle.meaning.proofs.Walking.{i-written, i-propagated, propagate-turns}
+use Rattle.meaning.proofs.Made.{at-rest}
+use Rattle.meaning.proofs.Accepted.{command-kept}
+use Rattle.meaning.proofs.Rows.{command-told}
+use Rattle.meaning.proofs.Moments.{flushing-queue, drop-once, gone-passed}
+use Rattle.meaning.proofs.Marked.{marks-exactly}
+use Rattle.meaning.proofs.Disposed.{gone-below, below-stays, disposed, givenBack, reserve-back}
+use Rattle.meaning.proofs.Unwatched.{becomes-17, stays}
+use Rattle.meaning.proofs.Throughout.{InRoom, in-room}
+
+-- n is gone, and has no links
+abbrev pub Bare : St → ℕ → Type 0
+Bare t n = (t .gone n ≡ true) × (deps t n ≡ []) × (t .subs n ≡ [])
+
+-- ---- an accepted command
+module _ (s : St) (rows : ℕ) (ws : List ℤ) (w : WellFormed s) (ok : command true s rows ws .code ≡ 0) where
+  abbrev a : Answer
+  a = command true s rows ws
+
+  abbrev t : St
+  t = command true s rows ws .st
+
+  formed : WellFormed t
+  formed = command-kept true s rows ws w .formed
+
+  told : (e : ℕ) → In e (whos (a .rows)) → In e (whos (t .log))
+  told e j = subst (λ (r : List Row). In e (whos r)) (rows-are s rows ws ok) j
+
+  -- a new effect has at most 1 row, a set or add at depth 0 or an end at depth 1 at most as many as effects are live at entry, any other command none
+  pub rows-few : (c : Command) → commandOf ws ≡ some c → runs a ≤ asksOf c .rows (sightOf s rows)
+  rows-few c q = subst (λ (r : List Row). length r ≤ asksOf c .rows (sightOf s rows)) (sym (rows-are s rows ws ok)) (command-told s rows w ws c q ok .few)
+
+  -- no effect runs twice
+  pub rows-once : Once (whos (a .rows))
+  rows-once = let k = known s rows ws ok in subst (λ (r : List Row). Once (whos r)) (sym (rows-are s rows ws ok)) (command-told s rows w ws (k .0) (k .1) ok .once)
+
+  -- no effect runs that was gone
+  pub rows-live : (e : ℕ) → In e (whos (a .rows)) → e < s .size → s .gone e ≡ false
+  rows-live e j = let k = known s rows ws ok in command-told s rows w ws (k .0) (k .1) ok .lives e (told e j)
+
+  bare : (n : ℕ) → n < s .size → t .gone n ≡ true → Bare t n
+  bare n h g = let m = command-stays true s rows ws .more in let x = formed .depends .gone-bare n (omega arith) g in (g, x .0, x .1)
+
+  all-below : (x y : ℕ) → t .gone x ≡ true → Below (s .owner) x y → y < s .size → Bare t y
+  all-below x y g b h =
+      let m = command-stays true s rows ws .more in
+      bare y h (gone-below t formed x y g (below-stays s t w (command-stays true s rows ws .owner) x y h b) (omega arith))
+
+  -- a rerun effect disposes everything it owns: e has run, n is below a node y that e owned
+  pub rerun-disposes : (e y n : ℕ) → In e (whos (a .rows)) → s .owner y ≡ some e → Below (s .owner) y n → y < s .size → n < s .size → Bare t n
+  rerun-disposes e y n j q b h l =
+      let k = known s rows ws ok in
+      all-below y n (command-told s rows w ws (k .0) (k .1) ok .disposed e y (told e j) h q) b l
+
+  -- ---- a dispose of x
+  module _ (x : ℕ) (is : commandOf ws ≡ some (disposeOf (pos x))) where
+    -- x is gone, with all it owns
+    pub gone-with-all : (n : ℕ) → Below (s .owner) x n → n < s .size → Bare t n
+    gone-with-all n b h = all-below x n (disposed s rows w ws x is ok .gone) b h
+
+    -- nothing else goes
+    pub nothing-else-goes : (n : ℕ) → (Below (s .owner) x n → ⊥) → n < s .size → t .gone n ≡ s .gone n
+    nothing-else-goes n f h = disposed s rows w ws x is ok .others n h f
+
+    -- disposal gives the reserve back: that of each node which goes
+    pub reserve-comes-back : reserve t + total (λ n. givenBack (s .gone n) (t .gone n) (reserveOf (s .kind n) false (s .form n) (s .owner n))) (s .size) ≡ reserve s
+    reserve-comes-back = reserve-back s t formed (disposed s rows w ws x is ok .keeps)
+
+  -- live links are at most the reserve, and that at most the slots: before and after the command (inside it: `room-throughout`, `room-during`, `made-in-room`)
+  pub room-kept : (liveLinks s ≤ reserve s) × (reserve s ≤ s .room .slots) × (liveLinks t ≤ reserve t) × (reserve t ≤ t .room .slots)
+  room-kept = let x = room-at-rest s w in let y = room-at-rest t formed in (x .0, x .1, y .0, y .1)
+
+-- ---- inside a command
+module _ (s : St) (w : WellFormed s) where
+  -- the queue holds each effect at most once, after any number k of turns of the walk from d
+  pub walk-queues-once : (d : ℕ) → readable (s .kind d) ≡ true → (k : ℕ) → Once (prop s k (marksOf s) (s .subs d) [] .queue)
+  walk-queues-once d r k = propagate-turns (given s) (static s w) s d (rest-inside s w) r k .once
+
+  -- what propagate marks is exactly what is reached by read links, from a node that is not clean
+  pub marks-what-is-reached : (d : ℕ) → d < s .size → readable (s .kind d) ≡ true → unclean (s .fl d) ≡ true → (u : ℕ) → (propagate s d .fl u .pending ≡ true) ↔ ((s .fl u .pending ≡ true) ⊎ Reached s d u)
+  marks-what-is-reached d h r un = marks-exactly (given s) (static s w) s d (rest-inside s w) h r un
+
+  -- where these walks start: signal n was written
+  pub written-well-formed : (n : ℕ) (v : Value) → n < s .size → s .kind n ≡ signal → WellFormed (setFl (setPend s n v) n f17)
+  written-well-formed n v h k = at-rest (given s) (setFl (setPend s n v) n f17) (static s w) (i-written (given s) (static s w) s n v (rest-inside s w) h k) (w .queued .at-depth-0) (w .queued .depth-low)
+
+  -- a computed that loses its last subscriber link l and has dependencies becomes 17 and drops them; without any it stays as it is
+  pub unwatched-becomes-17 : (l : ℕ) → s .live l ≡ true → s .kind (s .dep l) ≡ computed → s .subs (s .dep l) ≡ l ∷ [] → (deps s (s .dep l) ≡ [] → ⊥) → (unlink s l .fl (s .dep l) ≡ f17) × (deps (unlink s l) (s .dep l) ≡ [])
+  unwatched-becomes-17 l = becomes-17 s w l
+
+  pub unwatched-stays : (l : ℕ) → s .live l ≡ true → s .kind (s .dep l) ≡ computed → s .subs (s .dep l) ≡ l ∷ [] → deps s (s .dep l) ≡ [] → unlink s l ≡ cut s l
+  unwatched-stays l = stays s w l
+
+-- ---- inside a flush, after any number k of its runs
+-- nothing is queued: the queue is what is left of it, so it holds each effect at most once
+pub flush-queues-nothing : (s : St) (k : ℕ) → (flushing k s (s .queue) .queue ≡ drop k (s .queue)) × (Once (s .queue) → Once (flushing k s (s .queue) .queue))
+flush-queues-nothing s k = let e = flushing-queue k (s .queue) s refl in (e, λ o. subst Once (sym e) (drop-once k (s .queue) o))
+
+-- a gone effect e still queued doesn't run; its flags become 2: in the flush of a batch's end
+pub gone-passed-at-end : (s : St) (w : WellFormed s) (k e : ℕ) (q : List ℕ) → let x = flushing k (withDepth s 0) (s .queue) in
+    x .queue ≡ e ∷ q → x .gone e ≡ true → flushing (suc k) (withDepth s 0) (s .queue) ≡ setFl (withQueue x q) e f2
+gone-passed-at-end s w k e q j g =
+    gone-passed (given s) (static s w) k (s .queue) (withDepth s 0) (others (given s) nobody s (rest-inside s w) (s .cycle) (s .sto) (s .pend) 0 (s .log) (s .stuck)) refl e q j g
+
+-- and in that of a write to signal n
+pub gone-passed-at-write : (s : St) (w : WellFormed s) (n : ℕ) (v : Value) → n < s .size → s .kind n ≡ signal → (k e : ℕ) (q : List ℕ) → let p = propagate (setFl (setPend s n v) n f17) n in let x = flushing k p (p .queue) in
+    x .queue ≡ e ∷ q → x .gone e ≡ true → flushing (suc k) p (p .queue) ≡ setFl (withQueue x q) e f2
+gone-passed-at-write s w n v h kn k e q j g =
+    let p = propagate (setFl (setPend s n v) n f17) n in
+    gone-passed (given s) (static s w) k (p .queue) p (i-propagated (given s) (static s w) s n v (rest-inside s w) h kn .inside) refl e q j g
+
+-- ---- what "not stuck" says
+-- at every moment inside an accepted command the slots in use are at most the reserve at entry, and that at most the slots: each step of its disposals, reads and runs that is not stuck keeps both under any bound that they had
+pub room-throughout : Runs InRoom
+room-throughout = in-room
+
+-- an accepted command is not stuck: so no ring and no walk ends before its work, no slot is missing and no reserve spent, and no queue or stack is full (the first half of `Stuck` says where an operation is stuck, the second that it stays so)
+pub nothing-stuck : (s : St) (rows : ℕ) (ws : List ℤ) → WellFormed s → s .stuck ≡ false → command true s rows ws .st .stuck ≡ false
+nothing-stuck s rows ws w e = command-kept true s rows ws w .stuck ∙ e
+
+-- the stack never holds more than the nodes: a walk that puts another list aside, and is not stuck
+pub stack-bounded : (s : St) (k : ℕ) (m : Marks) (l : ℕ) (w : List ℕ) (st : List (List ℕ)) → unclean (m .fl (s .sub l)) ≡ false → m .fl (s .sub l) .mutable ≡ true → several (s .subs (s .sub l)) ≡ true
+    → prop s (suc k) m (l ∷ w) st .stuck ≡ false → length (w ∷ st) ≤ s .room .nodes
+stack-bounded s k m l w st cl mu sv h = either (leb (s .room .nodes) (length st)) (λ e. clash (stack-full s k m l w st cl mu sv e) h) (λ e. let a = leb-false (s .room .nodes) (length st) e in omega arith)
+
+-- nor does the queue, where a notify is not stuck
+pub queue-bounded : (s : St) (m : Marks) (e : ℕ) → notify s m e .stuck ≡ false → length (notify s m e .queue) ≤ s .room .nodes
+queue-bounded s m e h = either (ltb (s .room .nodes) (length (notify s m e .queue))) (λ q. clash (queue-full s m e q) h) (λ q. ltb-false (s .room .nodes) (length (notify s m e .queue)) q)

@@ -1,0 +1,8 @@
+-- Who is owned: y is x, or has an owner that is below x.
+use mathlib.Core.Path.{_≡_}
+use mathlib.Core.Option.{Option, some}
+use Prim.Native.Nat.{ℕ}
+
+pub data Below (owner : ℕ → Option ℕ) (x : ℕ) : ℕ → Type 0 where
+  itself : {y : ℕ} → y ≡ x → Below owner x y
+  through : {y : ℕ} (o : ℕ) → Below owner x o → owner y ≡ some o → Below owner x y
