@@ -1,0 +1,139 @@
+-- A write with the flush that follows it, and the end of a batch: the clauses are kept, each row is that of the fresh values,
+-- and where no effect was dirty, exactly the effects have a row that read something that now has another value. Assumes nothing.
+use mathlib.Core.Path.{_≡_, refl, sym, ap, _∙_, subst, fun-ext}
+use mathlib.Core.Bool.{false}
+use mathlib.Core.List.{List, [], _++_, append-nil}
+use Prim.Native.Nat.{ℕ, zero, suc, _+_, _≤_, _<_}
+use native.Mathlib.Omega.{arith}
+use Rattle.primitive.specs.declared.flags.Named.{Named}
+use Rattle.primitive.specs.declared.values.Value.{Value}
+use Rattle.primitive.specs.Values.{same}
+use Rattle.primitive.proofs.ValueLaws.{same-yes}
+use Rattle.meaning.specs.State.{St, signal, effect, Row, readable, unclean, f2, f17, up}
+use Rattle.meaning.specs.Setters.{setFl, setPend}
+use Rattle.meaning.specs.Links.{isNil}
+use Rattle.meaning.specs.Marks.{propagate}
+use Rattle.meaning.specs.Engine.{flushOn, flushAt, store}
+use Rattle.meaning.specs.WellFormed.{In, Once, EffectFlags, watching, pushed, pending, dirty}
+use Rattle.freshness.specs.Afresh.{recorded, Differs}
+use Rattle.freshness.specs.Evaluations.{inFlushAt, inStore}
+use Rattle.meaning.proofs.Laws.{clash, either, up-other, up-by}
+use Rattle.meaning.proofs.Members.{nil-none, isNil-true}
+use Rattle.meaning.proofs.Still.{Given}
+use Rattle.meaning.proofs.Kept.{flushOn-keeps}
+use Rattle.meaning.proofs.Flush.{whos}
+use Rattle.meaning.proofs.Inside.{nobody, Static, Inside}
+use Rattle.meaning.proofs.Walking.{i-written, i-propagated}
+use Rattle.freshness.proofs.Inv.{Records, Inv}
+use Rattle.freshness.proofs.Clean.{φ, quiet}
+use Rattle.freshness.proofs.Check.{branches}
+use Rattle.freshness.proofs.Whole.{limit}
+use Rattle.freshness.proofs.Write.{write-keeps, propagate-keeps, effect-dirty}
+use Rattle.freshness.proofs.Flush.{Rowed, Flushed, flush-fresh}
+use Rattle.freshness.proofs.Exact.{nothing-differs, due-differs, differs-due}
+
+-- no live effect is dirty
+abbrev pub Undirtied : Given → St → Type 0
+Undirtied g s = (e : ℕ) → e < g .size → g .kind e ≡ effect → s .gone e ≡ false → s .fl e .dirty ≡ false
+
+-- p: the last written values after it
+pub record Settled (g : Given) (p : ℕ → Value) (ρ : Records) (k : ℕ) (s t : St) : Type 0 where
+  pub rows : List Row
+  pub logged : t .log ≡ s .log ++ rows
+  pub fresh : Rowed g p rows
+  pub once : Once (whos rows)
+  pub keeps : Inv g p (recorded ρ rows) nobody nobody t
+  pub later : s .cycle ≤ t .cycle
+  pub spent : t .cycle ≤ s .cycle + k
+
+-- an effect that is live after it has a row exactly if something that its last run read has another value
+abbrev pub Exactly : Given → (ℕ → Value) → Records → List Row → St → Type 0
+Exactly g p ρ rows t = (e : ℕ) → e < g .size → g .kind e ≡ effect → t .gone e ≡ false → (In e (whos rows) → Differs (ρ e) (φ g p)) × (Differs (ρ e) (φ g p) → In e (whos rows))
+
+module _ (g : Given) (st : Static g) (p : ℕ → Value) (ρ : Records) where
+  -- a flush
+  pub flush-exact : (q : List ℕ) (s : St) (k : ℕ) → Inside g nobody s → Inv g p ρ nobody nobody s → Undirtied g s → (f : Flushed g p ρ k q s (flushOn s q)) → Exactly g p ρ (f .rows) (flushOn s q)
+  flush-exact q s k i v nd f e h ke a =
+      let b : s .gone e ≡ false = either (s .gone e) (λ z. clash (flushOn-keeps q s .gone e z) a) (λ z. z) in
+      let r = f .runs e h ke a in
+      (λ j. due-differs g st p ρ s i v e h ke b (nd e h ke b) (r .0 j), λ d. r .1 (differs-due g st p ρ s i v e h ke b (nd e h ke b) d))
+
+  -- nothing queued: every live effect has read the fresh values, and none is dirty
+  at-quiet : (s : St) → Inside g nobody s → s .queue ≡ [] → (e : ℕ) → e < g .size → g .kind e ≡ effect → s .gone e ≡ false → s .fl e ≡ f2
+  at-quiet s i is e h k a = go (i .rests e h (λ z. z) .of-effect k a)
+    where
+      go : {rs : List ℕ} → EffectFlags e (s .fl e) (s .queue) rs → s .fl e ≡ f2
+      go (watching x y) = x
+      go (pushed x y) = absurd (nil-none (s .queue) e is y)
+      go (pending x y z) = absurd (nil-none (s .queue) e is y)
+      go (dirty x y z) = absurd (nil-none (s .queue) e is y)
+
+  pub undirtied : (s : St) → Inside g nobody s → s .queue ≡ [] → Undirtied g s
+  undirtied s i is e h k a = ap (λ (f : Named). f .dirty) (at-quiet s i is e h k a)
+
+  pub quiet-exact : (s : St) → Inside g nobody s → Inv g p ρ nobody nobody s → s .queue ≡ [] → Exactly g p ρ [] s
+  unfolding whos
+  quiet-exact s i v is e h k a = (
+    λ j. absurd j,
+    λ d. absurd (nothing-differs (g .form e) (φ g p)
+        (subst (λ (x : List (ℕ × Value)). Differs x (φ g p)) (quiet g st p ρ nobody s i v e h k a (λ z. z) (λ m z y. z) (ap unclean (at-quiet s i is e h k a))) d)),
+  )
+
+-- a write at depth 0 closes with exactly the runs that it calls for
+pub record Written (g : Given) (p : ℕ → Value) (ρ : Records) (k : ℕ) (s t : St) : Type 0 where
+  pub settled : Settled g p ρ k s t
+  pub exact : s .depth ≡ 0 → Exactly g p ρ (settled .rows) t
+  pub clean : Undirtied g s → (s .depth ≡ 0 → ⊥) → Undirtied g t
+
+module _ (g : Given) (st : Static g) (p : ℕ → Value) (ρ : Records) (s : St) (n : ℕ) (v : Value) (i : Inside g nobody s) (h : n < g .size) (kn : g .kind n ≡ signal) (w : Inv g p ρ nobody nobody s) (goes : s .stuck ≡ false) (calm : s .depth ≡ 0 → s .queue ≡ []) where
+  abbrev p′ : ℕ → Value
+  p′ = up p n v
+
+  abbrev t : St
+  t = setFl (setPend s n v) n f17
+
+  -- nothing but marks
+  resting : (x : St) → Inv g p′ ρ nobody nobody x → x .log ≡ s .log → x .cycle ≡ s .cycle → Settled g p′ ρ 0 s x
+  unfolding recorded whos
+  resting x y e c = record { rows = []; logged = e ∙ sym (append-nil (s .log)); fresh = tt; once = tt; keeps = y; later = omega arith; spent = omega arith }
+
+  flushed : (d : ℕ) → s .depth ≡ d → s .cycle + inFlushAt (propagate t n) d < limit → Written g p′ ρ (inFlushAt (propagate t n) d) s (flushAt (propagate t n) d)
+  flushed zero e fits =
+      let x = propagate t n in
+      let xi = i-propagated g st s n v i h kn .inside in
+      let xv = propagate-keeps g st p ρ s n v i h kn w goes in
+      let f = flush-fresh g st p′ (x .queue) x ρ xi refl xv fits in
+      record {
+        settled = record { rows = f .rows; logged = f .logged; fresh = f .fresh; once = f .once; keeps = f .keeps; later = f .later; spent = f .spent };
+        exact = λ z. flush-exact g st p′ ρ (x .queue) x _ xi xv (λ m a b c. effect-dirty g st p ρ s n v i h kn w goes m b ∙ undirtied g st p ρ s i (calm e) m a b c) f;
+        clean = λ u z. absurd (z e);
+      }
+  flushed (suc d) e fits = record {
+    settled = resting (propagate t n) (propagate-keeps g st p ρ s n v i h kn w goes) refl refl;
+    exact = λ z. absurd (omega arith);
+    clean = λ u z m a b c. effect-dirty g st p ρ s n v i h kn w goes m b ∙ u m a b c;
+  }
+
+  pub store-fresh : s .cycle + inStore s n v < limit → Written g p′ ρ (inStore s n v) s (store s n v)
+  unfolding store inStore resting
+  store-fresh =
+      let P : St → ℕ → Type 0 = λ x k. s .cycle + k < limit → Written g p′ ρ k s x in
+      branches P (same (s .pend n) v) (λ e fits. unchanged (same-yes (s .pend n) v e))
+      (λ e. branches P (isNil (s .subs n)) (λ f fits. unheard (isNil-true (s .subs n) f)) (λ f. flushed (s .depth) refl))
+    where
+      -- the value is the last written one
+      unchanged : s .pend n ≡ v → Written g p′ ρ 0 s s
+      unchanged e =
+          let same-p : p ≡ p′ = fun-ext (λ m. up-by p n v (λ (x : Value). p m ≡ x) m (λ q. ap p q ∙ sym (ap (λ (f : ℕ → Value). f n) (w .last)) ∙ e) (λ q. refl)) in
+          let y : Inv g p′ ρ nobody nobody s = subst (λ (f : ℕ → Value). Inv g f ρ nobody nobody s) same-p w in
+          record { settled = resting s y refl refl; exact = λ z. quiet-exact g st p′ ρ s i y (calm z); clean = λ u z. u }
+
+      -- nobody reads it
+      unheard : s .subs n ≡ [] → Written g p′ ρ 0 s t
+      unheard e =
+          let y = write-keeps g st p ρ s n v i h kn w e in
+          record {
+            settled = resting t y refl refl;
+            exact = λ z. quiet-exact g st p′ ρ t (i-written g st s n v i h kn) y (calm z);
+            clean = λ u z m a b c. ap (λ (x : Named). x .dirty) (up-other (s .fl) n f17 m (λ q. clash (ap readable kn) (ap readable (sym (ap (g .kind) q) ∙ b)))) ∙ u m a b c;
+          }

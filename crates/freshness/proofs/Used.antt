@@ -1,0 +1,45 @@
+-- The theorem of demand 3 used on a closed history, its premise computed: it is not empty. Assumes nothing.
+use mathlib.Core.Path.{_≡_, refl}
+use mathlib.Core.List.{List, [], _∷_}
+use native.Mathlib.Omega.{arith}
+use lib.IntN.{ℤ, pos, negsuc}
+use Rattle.primitive.specs.Values.{sum, difference, minimum, maximum, less, clamp, same, sameNumber, isZero}
+use Rattle.formula.specs.Cells.{cellOf, codes, readOf, bareOf}
+use Rattle.formula.specs.Trees.{apply, written, size, names}
+use Rattle.meaning.specs.State.{up, below, empty}
+use Rattle.meaning.specs.Links.{remove, each, renew, spent, insert, link, cut, lastLink, disposeW, unwatchedW, unlinkN}
+use Rattle.meaning.specs.Marks.{chain, calm, effects, notify, mark, prop, soil, wakes}
+use Rattle.meaning.specs.Reads.{evalBy, settleW, firstW, updComputed, updSignal, updW, sameSlots, steady, checkOn, checkW, pendingW, freshW, fresh}
+use Rattle.meaning.specs.Engine.{logged, rerun, run, flushOn, store, tallest, newSignal, newComputed, newScope, newEffect}
+use Rattle.meaning.specs.Words.{word, noWord, wholeCells, codes as commands, commandOf, after as afterCells, grown, parse, treeOf}
+use Rattle.meaning.specs.Reserve.{total, reserve}
+use Rattle.meaning.specs.Refusals.{liveEffects, asksOf, isA, unknown, wrongNode, goneNode, allReadable, badFormula, tooHigh, noRoom, wrongDepth, fewRows, table as refusals, first, refusal}
+use Rattle.meaning.specs.Commands.{perform, performAny, answer, command}
+use Rattle.freshness.specs.Afresh.{recorded}
+use Rattle.freshness.specs.Evaluations.{inFormula, inFirst, inUpdate, inCheckOn, inCheck, inPending, inFreshW, inFresh, inRerun, inRun, inFlushOn, inStore, inNewEffect}
+use Rattle.meaning.specs.State.{Room}
+use Rattle.freshness.specs.History.{Call, meant, inPerform, inPerformAny, inAnswer, written as lastWritten, next, after, now, begin, Right, Demand3}
+use Rattle.freshness.proofs.History.{demand3}
+
+abbrev room : Room
+room = record { nodes = 16; slots = 32; cells = 32 }
+
+abbrev call : List ℤ → Call
+call ws = record { rows = 4; words = ws }
+
+-- signal 5; a computed that doubles it; an effect that reads both; a batch that writes 3
+abbrev history : List Call
+history = call (pos 1 ∷ pos 5 ∷ []) ∷ call (pos 2 ∷ pos 3 ∷ pos 0 ∷ pos 2 ∷ pos 0 ∷ pos 2 ∷ pos 0 ∷ []) ∷ call (pos 3 ∷ negsuc 0 ∷ pos 3 ∷ pos 0 ∷ pos 2 ∷ pos 0 ∷ pos 2 ∷ pos 1 ∷ []) ∷ call (pos 9 ∷ []) ∷ call (pos 5 ∷ pos 0 ∷ pos 3 ∷ []) ∷ []
+
+-- its end
+abbrev last : Call
+last = call (pos 10 ∷ [])
+
+-- four evaluations: the effect and the computed, twice
+four : now meant (after meant (begin room) history) last .many ≡ 4
+unfolding sum difference minimum maximum less clamp same sameNumber isZero cellOf codes readOf bareOf apply written size names up below empty remove each renew spent insert link cut lastLink disposeW unwatchedW unlinkN chain calm effects notify mark prop soil wakes evalBy settleW firstW updComputed updSignal updW sameSlots steady checkOn checkW pendingW freshW fresh logged rerun run flushOn store tallest newSignal newComputed newScope newEffect noWord word wholeCells commands commandOf afterCells grown parse treeOf total reserve liveEffects asksOf isA unknown wrongNode goneNode allReadable badFormula tooHigh noRoom wrongDepth fewRows refusals first refusal perform performAny answer command recorded inFormula inFirst inUpdate inCheckOn inCheck inPending inFreshW inFresh inRerun inRun inFlushOn inStore inNewEffect inPerform inPerformAny inAnswer lastWritten next after
+four = refl
+
+pub used : Right (after meant (begin room) history) last (meant .step (after meant (begin room) history .st) last) (now meant (after meant (begin room) history) last)
+unfolding Demand3
+used = demand3 room refl history last (let e = four in omega arith)

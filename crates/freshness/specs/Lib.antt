@@ -1,0 +1,3 @@
+pub mod Afresh
+pub mod Evaluations
+pub mod History

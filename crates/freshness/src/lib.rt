@@ -1,0 +1,1 @@
+// Demand 3 over lists: definitions and proofs, no functions.
