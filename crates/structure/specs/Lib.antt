@@ -1,0 +1,4 @@
+pub mod Chains
+pub mod Rep
+pub mod Reading
+pub mod Alike
