@@ -3,17 +3,17 @@
 #![warn(dead_code)]
 
 mod at_rest;
-mod books;
+pub mod books;
 mod child;
 mod command;
 mod dump;
-mod formula;
+pub mod formula;
 mod generate;
 mod many;
 mod options;
 mod peek;
 mod perform;
-mod refusals;
+pub mod refusals;
 mod script;
 mod session;
 mod view;

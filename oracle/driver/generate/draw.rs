@@ -1,10 +1,10 @@
 //! Commands that are meant to be accepted, one at a time or planned ahead.
 
 use super::Writer;
-use super::profile::{Action, Profile};
+use super::profile::{Action, MAKING, Profile};
 use crate::driver::books::Kind;
 use crate::driver::command::NO_OWNER;
-use crate::driver::formula::MOST_CELLS;
+use crate::driver::formula::{MOST_CELLS, named};
 use crate::driver::refusals::{MOST_BATCH_DEPTH, MOST_HEIGHT, MOST_OWNER_DEPTH};
 
 /// Past this depth most draws are ends, so that batches get closed.
@@ -15,7 +15,18 @@ impl Writer {
         if self.books().depth > COMFORTABLE_DEPTH && self.random.chance(60) {
             return vec![10];
         }
-        match self.random.weighted(&self.profile.actions()) {
+        let action = self.random.weighted(&self.profile.actions());
+        self.act(action)
+    }
+
+    /// A command that makes a node.
+    pub fn draw_node(&mut self) -> Vec<i64> {
+        let action = self.random.weighted(&self.profile.actions()[..MAKING]);
+        self.act(action)
+    }
+
+    fn act(&mut self, action: Action) -> Vec<i64> {
+        match action {
             Action::Signal => vec![1, self.value()],
             Action::Computed => [vec![2], self.formula()].concat(),
             Action::Effect => [vec![3, self.owner()], self.formula()].concat(),
@@ -81,23 +92,38 @@ impl Writer {
     /// Commands that belong together; a refused one ends the plan.
     pub fn plan(&mut self) -> Vec<Vec<i64>> {
         let left = self.books().room.nodes - self.books().nodes.len();
-        if self.random.chance(50) {
-            return self.busy_batch();
+        match self.random.below(10) {
+            0..3 => return self.busy_batch(),
+            3..5 => return self.there_and_back(),
+            _ => {}
         }
         match self.profile {
             Profile::Deep => self.tower(left),
-            Profile::Wide => self.fan(left.min(12)),
+            Profile::Odd if self.random.chance(25) => self.tower(left),
+            Profile::Wide => {
+                let wide = self.many();
+                self.fan(left.min(wide))
+            }
             Profile::Owners => self.family(left),
-            Profile::Batch | Profile::Odd if self.random.chance(20) => self.deep_batch(),
+            Profile::Batch | Profile::Odd if self.random.chance(60) => self.deep_batch(),
             Profile::Batch | Profile::Odd => self.busy_batch(),
             Profile::Full => self.fill(left),
         }
     }
 
+    /// A dozen mostly, at times a good part of the node table.
+    fn many(&mut self) -> usize {
+        match self.random.chance(25) {
+            true => 12.max(self.books().room.nodes / 4),
+            false => 12,
+        }
+    }
+
     /// A batch of writes with reads and disposals between them.
     fn busy_batch(&mut self) -> Vec<Vec<i64>> {
+        let most = if self.random.chance(10) { self.many() } else { 6 };
         let mut plan = vec![vec![9]];
-        for _ in 0..3 + self.random.below(6) {
+        for _ in 0..3 + self.random.below(most) {
             plan.push(match self.random.below(10) {
                 0 => self.dispose(),
                 1..4 => self.read(),
@@ -109,9 +135,31 @@ impl Writer {
         plan
     }
 
-    /// Computeds on top of the highest, up to one too high.
+    /// A batch that sets a signal that an effect names, and sets it back (case 4), at times with a
+    /// read between (case 5).
+    fn there_and_back(&mut self) -> Vec<Vec<i64>> {
+        let effects = self.numbers(|entry| entry.kind == Kind::Effect && !entry.gone);
+        let names = effects.iter().flat_map(|&effect| named(&self.entry(effect).cells));
+        let signals: Vec<i64> =
+            names.filter(|&name| self.entry(name).kind == Kind::Signal).collect();
+        let Some(signal) = self.random.any_of(&signals) else {
+            return Vec::new();
+        };
+        let value = self.value();
+        let other = value ^ 1;
+        let mut plan = vec![vec![5, signal, value], vec![9], vec![5, signal, other]];
+        if self.random.chance(20) {
+            plan.push(self.read());
+        }
+        plan.extend([vec![5, signal, value], vec![10]]);
+        plan
+    }
+
+    /// Computeds on top of the highest, or on another node, up to one too high.
     fn tower(&mut self, left: usize) -> Vec<Vec<i64>> {
-        let Some(top) = self.highest().or_else(|| self.source()) else {
+        let signals = self.numbers(|entry| entry.kind == Kind::Signal);
+        let low = self.random.any_of(&signals).filter(|_| self.random.chance(60));
+        let Some(top) = low.or_else(|| self.highest()).or_else(|| self.source()) else {
             return Vec::new();
         };
         let first = self.books().nodes.len() as i64;
@@ -162,11 +210,11 @@ impl Writer {
         let room = self.books().room;
         let cells = (room.cells / 4).min(MOST_CELLS - 1) | 1;
         let large = (room.cells - self.books().cells_used()) / cells + 1;
-        match self.random.below(3) {
-            0 if left < self.commands_left => (0..=left)
+        match self.random.below(4) {
+            0..2 if left < self.commands_left => (0..=left)
                 .map(|i| if i % 4 == 3 { vec![4, NO_OWNER] } else { vec![1, 0] })
                 .collect(),
-            1 => (0..large).map(|_| [vec![2], self.sized(cells, true)].concat()).collect(),
+            2 => (0..large).map(|_| [vec![2], self.sized(cells, true)].concat()).collect(),
             _ => {
                 (0..large).map(|_| [vec![3, NO_OWNER], self.sized(cells, false)].concat()).collect()
             }

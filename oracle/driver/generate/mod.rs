@@ -33,7 +33,7 @@ pub struct Wanted {
 /// In a hundred commands, about how many are meant to be refused.
 const WRONG: usize = 20;
 /// In a hundred commands, about how many begin a plan.
-const PLANNED: usize = 2;
+const PLANNED: usize = 3;
 /// How often a command is drawn anew because it would be refused.
 const TRIES: usize = 40;
 
@@ -69,6 +69,8 @@ pub struct Writer {
     random: Random,
     profile: Profile,
     planned: VecDeque<Vec<i64>>,
+    /// How many commands at the start do nothing but make nodes.
+    growing: usize,
     commands_left: usize,
     observer: Observer,
     script: Vec<u8>,
@@ -81,8 +83,11 @@ impl Writer {
         let session = Session::new(room);
         let observer = Observer::new(&session.engine);
         let planned = VecDeque::from(vec![vec![1, 0], vec![1, 1]]);
-        let script = Vec::new();
-        Writer { session, random, profile, planned, commands_left: commands, observer, script }
+        let grows = room.nodes > Room::PROGRAM.nodes || random.chance(30);
+        let most = (commands / 3).min(room.nodes / 4 * 3);
+        let growing = if grows { random.below(most + 1) } else { 0 };
+        let (commands_left, script) = (commands, Vec::new());
+        Writer { session, random, profile, planned, growing, commands_left, observer, script }
     }
 
     fn write(&mut self) {
@@ -95,7 +100,7 @@ impl Writer {
         while self.books().depth > 0 && judge(self.books(), &[10]).is_ok() {
             self.give(&[10]);
         }
-        if self.random.chance(30) {
+        if self.random.chance(60) {
             self.observer.counts.add("malformed_pairs");
             let pair = self.malformed();
             self.script.extend(pair);
@@ -103,17 +108,19 @@ impl Writer {
     }
 
     fn next(&mut self) -> Vec<i64> {
-        if self.planned.is_empty() && self.random.chance(PLANNED) {
+        let growing = self.growing > 0;
+        self.growing = self.growing.saturating_sub(1);
+        if self.planned.is_empty() && !growing && self.random.chance(PLANNED) {
             self.planned = self.plan().into();
         }
         if let Some(words) = self.planned.pop_front() {
             return words;
         }
-        if self.random.chance(WRONG) {
+        if !growing && self.random.chance(WRONG) {
             return self.wrong();
         }
         for _ in 0..TRIES {
-            let words = self.draw();
+            let words = if growing { self.draw_node() } else { self.draw() };
             if judge(self.books(), &words).is_ok() {
                 return words;
             }

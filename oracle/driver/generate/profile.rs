@@ -33,6 +33,9 @@ pub enum Action {
     End,
 }
 
+/// How many of the actions, the first ones, make a node.
+pub const MAKING: usize = 4;
+
 #[derive(Clone, Copy)]
 pub enum Shape {
     /// One cell.
@@ -74,7 +77,7 @@ impl Profile {
             Profile::Owners => [40, 20, 15, 20, 5, 0, 0],
             Profile::Batch => [20, 25, 20, 30, 5, 0, 0],
             Profile::Full => [15, 10, 10, 10, 20, 30, 5],
-            Profile::Odd => [15, 25, 12, 15, 15, 8, 10],
+            Profile::Odd => [14, 22, 12, 13, 13, 8, 18],
         };
         let shapes = [Lone, Pair, Repeated, Switch, Tree, Large, Spine];
         std::array::from_fn(|i| (weights[i], shapes[i]))

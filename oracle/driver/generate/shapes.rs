@@ -18,7 +18,8 @@ impl Writer {
             Shape::Tree => self.tree(4),
             Shape::Large => self.large_or_largest(),
             Shape::Spine => {
-                let nesting = self.random.one_of(&[3, 8, MOST_NESTING - 1, MOST_NESTING]);
+                let nesting =
+                    self.random.one_of(&[3, MOST_NESTING - 1, MOST_NESTING, MOST_NESTING]);
                 self.joined(nesting)
             }
         }

@@ -8,7 +8,7 @@ use crate::driver::refusals::judge;
 use crate::driver::script::{MOST_BYTES, Pair, read_pair, write_pair};
 
 impl Writer {
-    /// A command that some refusal meets; the rare one, 9, is aimed at most often.
+    /// A command that some refusal meets; the rare ones, 7 and 9, are aimed at most often.
     pub fn wrong(&mut self) -> Vec<i64> {
         for _ in 0..20 {
             let words = match self.random.below(10) + 2 {
@@ -19,6 +19,7 @@ impl Writer {
                 6 => self.too_high_or_deep(),
                 7 => self.too_large(),
                 8 => vec![self.random.one_of(&[9, 10])],
+                9 => self.filling(),
                 _ => self.wanting_rows(),
             };
             if judge(self.books(), &words).is_err() {
@@ -113,6 +114,15 @@ impl Writer {
             1 => vec![4, owner],
             2 => [vec![2], self.sized(MOST_CELLS, constants)].concat(),
             _ => [vec![3, owner], self.sized(MOST_CELLS, constants)].concat(),
+        }
+    }
+
+    /// A node without a formula: only a full node table, or a full reserve, refuses it.
+    fn filling(&mut self) -> Vec<i64> {
+        let live = self.live();
+        match self.random.any_of(&live) {
+            Some(owner) if self.random.chance(50) => vec![4, owner],
+            _ => vec![1, 0],
         }
     }
 
