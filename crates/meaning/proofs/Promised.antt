@@ -146,7 +146,7 @@ gone-passed-at-write s w n v h kn k e q j g =
     gone-passed (given s) (static s w) k (p .queue) p (i-propagated (given s) (static s w) s n v (rest-inside s w) h kn .inside) refl e q j g
 
 -- ---- what "not stuck" says
--- at every moment inside an accepted command the slots in use are at most the reserve at entry, and that at most the slots: each step of its disposals, reads and runs that is not stuck keeps both under any bound that they had
+-- room at every moment: each step of a disposal, a read or a run that is not stuck keeps the slots in use, and the reserve, under any bound that both had before it
 pub room-throughout : Runs InRoom
 room-throughout = in-room
 

@@ -1,4 +1,4 @@
--- Set and add over words are the list operations, given that the flush is: the pending value, the walk over what depends on the signal, the flush outside of batches. And batches. Assumes nothing.
+-- Set and add over words are the list operations, given that the flush is: the pending value, the walk over what depends on the signal, the flush outside of batches. Assumes nothing.
 use mathlib.Core.Path.{_≡_, refl, sym, ap, _∙_, subst}
 use mathlib.Core.Bool.{Bool, true, false}
 use mathlib.Core.List.{List, [], _∷_}

@@ -1,6 +1,6 @@
 -- Which words of lent tables have a meaning: two tables of equal lengths are alike where these agree. The other words say nothing: rows past the last node and queue entries past
--- the queue's length; CELLS, READS and START of signals and scopes; where the cells of a formula lie; what a live mark is beside not 0; the neighbours of a free slot, but for the
--- next free one; the spare words of rows, headers and values; cells of no formula.
+-- the queue's length; CELLS, READS and START of signals and scopes; where the cells of a formula lie; what a live mark is beside not 0; the words of a free slot, but for the
+-- next free one; the spare words of rows, headers and values; cells of no formula. `stateIn` reads some of them all the same, so equal states ask more than tables that are alike.
 use mathlib.Core.Path.{_≡_}
 use mathlib.Core.Bool.{true, false}
 use mathlib.Core.List.{List}

@@ -1,4 +1,4 @@
-// The lines of scripts and of answers: strict decimals, pairs of lines, and what is written. No calls of the system, no input that is refused.
+// The lines of scripts and of answers: strict decimals, pairs of lines, and what is written. It calls no system, and asks nothing of its caller.
 pub mod answers;
 pub mod lines;
 pub mod numbers;
