@@ -1,2 +1,3 @@
 pub mod TurnLaws
+pub mod LogLength
 pub mod Whole

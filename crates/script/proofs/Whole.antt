@@ -19,7 +19,9 @@ use Rattle.text.proofs.Streams.{followed, reading-same, short-few}
 use Rattle.text.proofs.OutputLaws.{pair-behind, output-none, output-pair, output-unreadable, output-cut}
 use Rattle.text.proofs.Room.{held-all}
 use Rattle.script.specs.declared.turns.Turn.the-variants.{More, Answered, Ended}
+use Rattle.engine.specs.Command.{commandIn}
 use Rattle.script.specs.Turns.{Tables, stepped, waiting, turnOn, turnIn}
+use Rattle.script.proofs.LogLength.{log-long}
 
 -- the bytes of an answer that fits are the front of out
 front : (out b : List ℕ) → length b ≤ length out → take (put (buffer out 0) b .next) (put (buffer out 0) b .held) ≡ b
@@ -28,7 +30,16 @@ front out b h = rw (put-fits out b h) (take-append-seam b (drop (length b) out))
 -- what can't be read is answered in 82 bytes at most
 unread-fits : (out : List ℕ) → 82 ≤ length out → length unreadableAnswer ≤ length out
 unfolding unreadableAnswer
-unread-fits out h = let e : length unreadableAnswer ≤ 82 + 48 * 0 = length-answer 2 (pos 0) 0 [] in omega arith
+unread-fits out h = let e : length unreadableAnswer ≤ 82 + 24 * 0 = length-answer 2 (pos 0) 0 [] in omega arith
+
+-- and a command in 24 bytes more for each word of the log
+answer-fits : (t : Tables) (zs : List ℤ) (out : List ℕ) → 82 + 24 * length (t .log) ≤ length out → length (stepped t zs .answer) ≤ length out
+unfolding stepped
+answer-fits t zs out h =
+    let a = commandIn (t .nodes) (t .links) (t .values) (t .cells) (t .log) zs in
+    let e : length (answer (a .code) (a .value) (a .runs) (a .log)) ≤ 82 + 24 * length (a .log) = length-answer (a .code) (a .value) (a .runs) (a .log) in
+    let k : length (a .log) ≡ length (t .log) = log-long (t .nodes) (t .links) (t .values) (t .cells) (t .log) zs in
+    omega arith
 
 reading-empty : reading [] ≡ short
 unfolding reading endOf firstOf fromFirst
@@ -41,7 +52,7 @@ module _ (t : Tables) (ws : List ℤ) (out w : List ℕ) (over : Bool) where
   never-answered true (suc n) used bytes f = let y : _≡_ {A = ℕ} 0 1 = cc in omega arith
 
   -- ---- a pair was answered: its answer, and then the output for what is left
-  pub turn-answers : (used bytes : ℕ) → turnIn t ws out w over .turn ≡ Answered used bytes → ((zs : List ℤ) → length (stepped t zs .answer) ≤ length out) → (more : List ℕ) → output stepped t (w ++ more) ≡ take bytes (turnIn t ws out w over .out) ++ output stepped (turnIn t ws out w over .after) (drop used w ++ more)
+  pub turn-answers : (used bytes : ℕ) → turnIn t ws out w over .turn ≡ Answered used bytes → 82 + 24 * length (t .log) ≤ length out → (more : List ℕ) → output stepped t (w ++ more) ≡ take bytes (turnIn t ws out w over .out) ++ output stepped (turnIn t ws out w over .after) (drop used w ++ more)
   unfolding turnIn turnOn followed
   turn-answers used bytes e room more = go (held (length ws) (reading w)) refl e
     where
@@ -54,7 +65,7 @@ module _ (t : Tables) (ws : List ℤ) (out w : List ℕ) (over : Bool) where
           let h : reading w ≡ pair zs rest = held-pair (length ws) (reading w) zs rest q .0 in
           let n : reading w ≡ short → ⊥ = λ z. (let y : _≡_ {A = ℕ} 0 1 = cc in omega arith) in
           let m : reading (w ++ more) ≡ pair zs (rest ++ more) = reading-same w more n ∙ ap (λ (r : Reading). followed r more) h in
-          let p : take bytes (put (buffer out 0) (stepped t zs .answer) .held) ≡ stepped t zs .answer = ap (λ (k : ℕ). take k (put (buffer out 0) (stepped t zs .answer) .held)) (sym eb) ∙ front out (stepped t zs .answer) (room zs) in
+          let p : take bytes (put (buffer out 0) (stepped t zs .answer) .held) ≡ stepped t zs .answer = ap (λ (k : ℕ). take k (put (buffer out 0) (stepped t zs .answer) .held)) (sym eb) ∙ front out (stepped t zs .answer) (answer-fits t zs out room) in
           let d : drop used w ≡ rest = ap (λ (k : ℕ). drop k w) (sym eu) ∙ sym (pair-behind w zs rest h .1) in
           output-pair stepped t (w ++ more) zs (rest ++ more) m
           ∙ ap (λ (x : List ℕ). x ++ output stepped (stepped t zs .after) (rest ++ more)) (sym p)

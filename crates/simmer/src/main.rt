@@ -8,6 +8,8 @@ use stream::Window;
 use stream::after;
 use stream::fill;
 use stream::send;
+ghost use Rattle.script.specs.Turns.{tables};
+ghost use Rattle.simmer.specs.Steps.{Stepped, lent};
 
 // Where the window stands, and whether the run goes on.
 struct State {
@@ -28,7 +30,9 @@ fn step(
     out: &mut [u8],
     buf: &mut [u8],
     state: State,
-) -> State {
+) -> State
+    ensures { λ r. ⌜ Stepped (lent (tables (now (nodes .entry)) (now (links .entry)) (now (values .entry)) (now (cells .entry)) (now (log .entry))) (now (words .entry)) (now (out .entry)) (now (buf .entry)) (state .at) (state .end) (state .over)) (lent (tables (now (nodes .exit)) (now (links .exit)) (now (values .exit)) (now (cells .exit)) (now (log .exit))) (now (words .exit)) (now (out .exit)) (now (buf .exit)) (r .at) (r .end) (r .over)) (r .on) ⌝ }
+{
     let at = state.at;
     let end = state.end;
     let over = state.over;

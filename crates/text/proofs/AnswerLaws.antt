@@ -120,7 +120,7 @@ length-row e v =
       length-append (decimal v) (10 ∷ []),
     )
 
-pub length-rows : (n : ℕ) (log : List ℤ) → length (rows n log) ≤ 48 * n
+pub length-rows : (n : ℕ) (log : List ℤ) → length (rows n log) ≤ 24 * length log
 unfolding rows
 length-rows zero log = omega arith
 length-rows (suc n) [] = omega arith
@@ -131,8 +131,8 @@ length-line : (key : List ℕ) (v : ℤ) → length (line key v) ≤ length key 
 unfolding line
 length-line key v = omega (arith, length-decimal v, length-append key (decimal v ++ 10 ∷ []), length-append (decimal v) (10 ∷ []))
 
--- 256 rows: 12,370 bytes; 1,024 rows: 49,234
-pub length-answer : (code : ℕ) (value : ℤ) (runs : ℕ) (log : List ℤ) → length (answer code value runs log) ≤ 82 + 48 * runs
+-- a log of 256 rows: 12,370 bytes; of 1,024 rows: 49,234
+pub length-answer : (code : ℕ) (value : ℤ) (runs : ℕ) (log : List ℤ) → length (answer code value runs log) ≤ 82 + 24 * length log
 unfolding answer
 length-answer code value runs log =
     omega (

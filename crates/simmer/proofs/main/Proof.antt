@@ -1,12 +1,9 @@
+-- `simmer::main` meets its contract. Assumes nothing.
 use mathlib.Core.Path.{_≡_}
 use lib.ListN.{length}
 use borrow.Author.Needs.{needs}
 use Rattle.simmer.proofs.main.Statement.{statement}
 use Rattle.simmer.proofs.main.Tie as tie
-use Rattle.simmer.proofs.main.Reads as reads
-use Rattle.simmer.proofs.main.Lts as lts
-use Rattle.operations.proofs.emptying.empty.Reads as empty-reads
-use Rattle.simmer.proofs.step.Reads as step-reads
 
 abbrev Inv-loop : tie.InvT-loop
 Inv-loop nodes₀ links₀ values₀ cells₀ log₀ words₀ out₀ buf₀ state₀ turns₀ nodes links values cells log words out buf state turns =
@@ -16,83 +13,63 @@ abbrev μ-loop : tie.MeasureT-loop
 μ-loop nodes₀ links₀ values₀ cells₀ log₀ words₀ out₀ buf₀ state₀ turns₀ nodes links values cells log words out buf state turns =
     turns
 
--- src/main.rt:107:11
 slice-aggregate-empty : tie.Need-slice-aggregate-empty Inv-loop μ-loop
 slice-aggregate-empty c = search needs
 
--- src/main.rt:107:23
 slice-aggregate-empty-2 : tie.Need-slice-aggregate-empty-2 Inv-loop μ-loop
 slice-aggregate-empty-2 c = search needs
 
--- src/main.rt:107:35
 slice-aggregate-empty-3 : tie.Need-slice-aggregate-empty-3 Inv-loop μ-loop
 slice-aggregate-empty-3 c = search needs
 
--- src/main.rt:107:48
 slice-aggregate-empty-4 : tie.Need-slice-aggregate-empty-4 Inv-loop μ-loop
 slice-aggregate-empty-4 c = search needs
 
--- src/main.rt:107:5
 empty-requires : tie.Need-empty-requires Inv-loop μ-loop
 empty-requires c κs = search needs
 
--- src/main.rt:115:5
 loop-holds : tie.Need-loop-holds Inv-loop μ-loop
 loop-holds c = search needs
 
--- src/main.rt:117:13
 slice-aggregate-step : tie.Need-slice-aggregate-step Inv-loop μ-loop
 slice-aggregate-step c = search needs
 
--- src/main.rt:118:13
 slice-aggregate-step-2 : tie.Need-slice-aggregate-step-2 Inv-loop μ-loop
 slice-aggregate-step-2 c = search needs
 
--- src/main.rt:119:13
 slice-aggregate-step-3 : tie.Need-slice-aggregate-step-3 Inv-loop μ-loop
 slice-aggregate-step-3 c = search needs
 
--- src/main.rt:120:13
 slice-aggregate-step-4 : tie.Need-slice-aggregate-step-4 Inv-loop μ-loop
 slice-aggregate-step-4 c = search needs
 
--- src/main.rt:121:13
 slice-aggregate-step-5 : tie.Need-slice-aggregate-step-5 Inv-loop μ-loop
 slice-aggregate-step-5 c = search needs
 
--- src/main.rt:122:13
 slice-aggregate-step-6 : tie.Need-slice-aggregate-step-6 Inv-loop μ-loop
 slice-aggregate-step-6 c = search needs
 
--- src/main.rt:123:13
 slice-aggregate-step-7 : tie.Need-slice-aggregate-step-7 Inv-loop μ-loop
 slice-aggregate-step-7 c = search needs
 
--- src/main.rt:124:13
 slice-aggregate-step-8 : tie.Need-slice-aggregate-step-8 Inv-loop μ-loop
 slice-aggregate-step-8 c = search needs
 
--- src/main.rt:116:9
 step-requires : tie.Need-step-requires Inv-loop μ-loop
 step-requires c κs = search needs
 
--- src/main.rt:128:13
 returns : tie.Need-returns Inv-loop μ-loop
 returns c = search needs
 
--- src/main.rt:130:9
 sub-turns : tie.Need-sub-turns Inv-loop μ-loop
 sub-turns c = search needs
 
--- src/main.rt:115:5
 loop-less : tie.Need-loop-less Inv-loop μ-loop
 loop-less c = search needs
 
--- src/main.rt:115:5
 loop-again : tie.Need-loop-again Inv-loop μ-loop
 loop-again c = search needs
 
--- src/main.rt:98:1
 returns-2 : tie.Need-returns-2 Inv-loop μ-loop
 returns-2 c = search needs
 
