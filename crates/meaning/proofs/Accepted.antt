@@ -38,7 +38,8 @@ use Rattle.meaning.proofs.Frames.{others}
 use Rattle.meaning.proofs.Running.{Goes-on, read-inside, flush-inside}
 use Rattle.meaning.proofs.Walking.{store-inside}
 use Rattle.meaning.proofs.Making.{Fits}
-use Rattle.meaning.proofs.Made.{Well, at-rest, signal-well, computed-well, scope-well, effect-well}
+use Rattle.meaning.proofs.Made.{Well, at-rest, signal-well, computed-well, scope-well}
+use Rattle.meaning.proofs.Entered.{effect-well}
 
 and-both : (a b : Bool) → a && b ≡ true → (a ≡ true) × (b ≡ true)
 and-both true b e = (refl, e)

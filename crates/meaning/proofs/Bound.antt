@@ -29,7 +29,8 @@ use Rattle.meaning.proofs.Frames.{others}
 use Rattle.meaning.proofs.Running.{read-inside, read-reads, flush-inside}
 use Rattle.meaning.proofs.Walking.{i-propagated}
 use Rattle.meaning.proofs.Making.{Fits}
-use Rattle.meaning.proofs.Made.{made, effect-reads}
+use Rattle.meaning.proofs.Made.{made}
+use Rattle.meaning.proofs.Entered.{effect-reads}
 use Rattle.meaning.proofs.Accepted.{logless, taken, is-signal, signal-fits, computed-fits, effect-fits, scope-fits}
 use Rattle.meaning.proofs.Rows.{flush-rows}
 

@@ -1,15 +1,18 @@
--- Emptying gives well-formed tables, or answers 1 and touches nothing. Assumes nothing.
-use mathlib.Core.Path.{_≡_, refl}
+-- Emptying gives the empty tables, which are well formed, or answers 1 and touches nothing. Assumes nothing.
+use mathlib.Core.Path.{_≡_, refl, sym, ap, _∙_}
 use mathlib.Core.Logic.{_⊎_, inl, inr}
 use mathlib.Core.Bool.{true, false}
 use mathlib.Core.List.{List, [], _∷_}
-use Prim.Native.Nat.{ℕ, zero, suc, _≤_, _<_}
+use Prim.Native.Nat.{ℕ, zero, suc, _+_, _≤_, _<_}
 use native.Mathlib.Omega.{arith}
+use lib.Dec.{eqb}
+use lib.ListN.{length, getD}
+use borrow.Author.Tests.{eqb-true, eqb-false}
 use Rattle.meaning.specs.State.{St, Room, capacities, below, empty}
 use Rattle.meaning.specs.Reserve.{total, reserve}
 use Rattle.meaning.specs.WellFormed.{In, Once, WellFormed}
 use Rattle.meaning.specs.Commands.{emptying}
-use Rattle.meaning.proofs.Laws.{false≢true, branch}
+use Rattle.meaning.proofs.Laws.{false≢true, either, branch}
 
 -- ---- the slots from 0 on
 below-in : (l n : ℕ) (ls : List ℕ) → In l (below n ls) → (l < n) ⊎ In l ls
@@ -122,10 +125,36 @@ module _ (r : Room) where
     };
   }
 
--- emptying answers 0 and leaves well-formed tables, or answers 1 and leaves what it was lent
+-- emptying answers 0 and leaves the empty tables, which are well formed, or answers 1 and leaves what it was lent
 pub emptying-answers : (r : Room) (s : St)
-    → ((capacities r ≡ true) × (emptying r s .0 ≡ 0) × WellFormed (emptying r s .1)) ⊎ ((capacities r ≡ false) × (emptying r s .0 ≡ 1) × (emptying r s .1 ≡ s))
+    → ((capacities r ≡ true) × (emptying r s ≡ (0, empty r)) × WellFormed (empty r)) ⊎ ((capacities r ≡ false) × (emptying r s ≡ (1, s)))
 unfolding emptying
 emptying-answers r s =
-    branch (λ (x : ℕ × St). ((capacities r ≡ true) × (x .0 ≡ 0) × WellFormed (x .1)) ⊎ ((capacities r ≡ false) × (x .0 ≡ 1) × (x .1 ≡ s))) (capacities r)
-    (λ e. inl (e, refl, empty-well-formed r e)) (λ e. inr (e, refl, refl))
+    branch (λ (x : ℕ × St). ((capacities r ≡ true) × (x ≡ (0, empty r)) × WellFormed (empty r)) ⊎ ((capacities r ≡ false) × (x ≡ (1, s)))) (capacities r)
+    (λ e. inl (e, refl, empty-well-formed r e)) (λ e. inr (e, refl))
+
+-- ---- what the empty tables are
+-- the first of the list that the slots below n are put before stands at place n
+past-below : (n k : ℕ) (ls : List ℕ) → getD (below n ls) (n + k) 0 ≡ getD ls k 0
+unfolding below
+past-below zero k ls = let e : 0 + k ≡ k = omega arith in ap (λ (j : ℕ). getD ls j 0) e
+past-below (suc n) k ls = let e : suc n + k ≡ n + suc k = omega arith in ap (λ (j : ℕ). getD (below n (n ∷ ls)) j 0) e ∙ past-below n (suc k) (n ∷ ls)
+
+at-below : (n l : ℕ) (ls : List ℕ) → l < n → getD (below n ls) l 0 ≡ l
+unfolding below
+at-below zero l ls h = absurd (omega arith)
+at-below (suc n) l ls h = either (eqb l n) (λ e. last (eqb-true l n e)) (λ e. let q = eqb-false l n e in at-below n l (n ∷ ls) (omega (arith, q)))
+  where
+    last : l ≡ n → getD (below n (n ∷ ls)) l 0 ≡ l
+    last q = let e : l ≡ n + 0 = omega arith in ap (λ (j : ℕ). getD (below n (n ∷ ls)) j 0) e ∙ past-below n 0 (n ∷ ls) ∙ sym q
+
+below-long : (n : ℕ) (ls : List ℕ) → length (below n ls) ≡ n + length ls
+unfolding below
+below-long zero ls = omega arith
+below-long (suc n) ls = let r = below-long n (n ∷ ls) in omega arith
+
+-- no nodes, all slots free, the lowest first, depth and cycle 0
+pub empty-is : (r : Room) → let s = empty r in
+    (s .size ≡ 0) × (length (s .free) ≡ r .slots) × ((l : ℕ) → l < r .slots → (s .live l ≡ false) × (getD (s .free) l 0 ≡ l)) × (s .depth ≡ 0) × (s .cycle ≡ 0)
+unfolding empty
+empty-is r = let e = below-long (r .slots) [] in (refl, omega arith, λ l h. (refl, at-below (r .slots) l [] h), refl, refl)

@@ -20,6 +20,7 @@ use Rattle.meaning.specs.Owners.{Below, itself, through}
 use Rattle.meaning.specs.WellFormed.{In, Once, Lists, readLinks, ComputedFlags, never, clean, stale, maybe, dirty, EffectFlags, watching, pushed, pending, dirty as soiled, WellFormed}
 use Rattle.meaning.proofs.Laws.{clash, either}
 use Rattle.meaning.proofs.Members.{none-nil, nil-none}
+use Rattle.meaning.proofs.Owning.{below-then}
 use Rattle.meaning.proofs.Still.{Given, given}
 
 -- ---- sets of nodes
@@ -370,10 +371,6 @@ module _ (s : St) (st : Static (given s)) (i : Inside (given s) nobody s) where
           depth-low = low;
         };
       }
-
-below-then : (owner : ℕ → Option ℕ) (d m k : ℕ) → Below owner d m → Below owner m k → Below owner d k
-below-then owner d m k p (itself e) = subst (Below owner d) (sym e) p
-below-then owner d m k p (through o q e) = through o (below-then owner d m o p q) e
 
 -- ---- what a ring may come to from d: lower signals and computeds; from an effect or a scope also higher effects and scopes, which it owns
 pub record Under (g : Given) (d m : ℕ) : Type 0 where

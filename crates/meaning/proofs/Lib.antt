@@ -17,6 +17,7 @@ pub mod Freed
 pub mod Batches
 pub mod Making
 pub mod Members
+pub mod Owning
 pub mod Inside
 pub mod Dropping
 pub mod Room
@@ -29,8 +30,10 @@ pub mod Running
 pub mod Marking
 pub mod Walking
 pub mod Made
+pub mod Entered
 pub mod Accepted
 pub mod Rows
+pub mod Outcome
 pub mod Binding
 pub mod Bound
 pub mod Moments

@@ -1,4 +1,4 @@
--- The four makings keep well-formedness and are not stuck; an owned node is linked to its owner, and an effect runs at once. Assumes nothing.
+-- A new node, linked to its owner, keeps well-formedness and is not stuck: signals, computeds and scopes. Assumes nothing.
 use mathlib.Core.Path.{_≡_, refl, sym, ap, ap₂, _∙_, subst}
 use mathlib.Core.Logic.{inl, inr}
 use mathlib.Core.Bool.{Bool, true, false, _||_}
@@ -13,28 +13,24 @@ use borrow.Author.Tests.{eqb-true, eqb-false}
 use Rattle.primitive.specs.declared.flags.Named.{Named}
 use Rattle.primitive.specs.declared.values.Value.{Value}
 use Rattle.formula.specs.Trees.{Tree, constant, names}
-use Rattle.meaning.specs.State.{St, Kind, signal, computed, effect, scope, readable, deps, f0, f1, f2, f6, nothing, up}
-use Rattle.meaning.specs.Setters.{setFl}
+use Rattle.meaning.specs.State.{St, Kind, signal, computed, effect, scope, readable, deps, f0, f1, nothing, up}
 use Rattle.meaning.specs.Links.{headOf, lastOf, goesTo, isFrom, spent, insert, link}
 use Rattle.meaning.specs.Marks.{isEffect}
-use Rattle.meaning.specs.Reads.{evalBy, readW, fresh}
-use Rattle.meaning.specs.Engine.{logged, node, owned, newSignal, newComputed, newScope, newEffect}
+use Rattle.meaning.specs.Engine.{node, owned, newSignal, newComputed, newScope}
 use Rattle.meaning.specs.Reserve.{reserveOf}
 use Rattle.meaning.specs.Refusals.{mostDepth}
 use Rattle.meaning.specs.WellFormed.{In, readLinks, never, EffectFlags, WellFormed}
 use Rattle.meaning.proofs.Laws.{clash, false≢true, either, branch, or-false, none-some, same-some, up-same, up-other, in-left}
 use Rattle.meaning.proofs.Members.{reads-append, reads-agree, reads-sub}
-use Rattle.meaning.proofs.Rings.{evaluate-ring}
-use Rattle.meaning.proofs.Still.{Given, given, Fixed, Still, renews-still}
-use Rattle.meaning.proofs.Binding.{SameReads, ReadsStay, stay-then, same-stay}
+use Rattle.meaning.proofs.Still.{Given, given}
+use Rattle.meaning.proofs.Binding.{ReadsStay, stay-then}
 use Rattle.meaning.proofs.Inside.{nobody, also, Static, Goes, AtRest, Rests, Inside, let-out, widen, at-same, inside-rest}
 use Rattle.meaning.proofs.Dropping.{aComputed}
 use Rattle.meaning.proofs.Room.{ownerLinks, spends, Paid, rests-paid, slot-left}
 use Rattle.meaning.proofs.Linking.{at-ends, insert-inside}
-use Rattle.meaning.proofs.Frames.{frame-same, rests-clean}
-use Rattle.meaning.proofs.Reading.{Near}
-use Rattle.meaning.proofs.Running.{Goes-on, Owns, first-run, first-reads}
-use Rattle.meaning.proofs.Making.{Fits, G, deps-new, gone-new, subs-new, kind-new, fl-new, owner-new, done-new, new-static, new-inside, new-reads, not-queued}
+use Rattle.meaning.proofs.Frames.{rests-clean}
+use Rattle.meaning.proofs.Running.{Owns}
+use Rattle.meaning.proofs.Making.{Fits, G, deps-new, gone-new, subs-new, kind-new, fl-new, owner-new, done-new, new-static, new-inside, new-reads}
 
 -- nobody is under way any more
 pub at-rest : (g : Given) (t : St) → Static g → Inside g nobody t → (t .depth ≡ 0 → t .queue ≡ []) → t .depth ≤ mostDepth → WellFormed t
@@ -271,7 +267,7 @@ module _ (s : St) (w : WellFormed s) where
   at-depth : (x : St) → x .queue ≡ s .queue → x .depth ≡ s .depth → (x .depth ≡ 0 → x .queue ≡ []) × (x .depth ≤ mostDepth)
   at-depth x q d = (λ e. q ∙ w .queued .at-depth-0 (sym d ∙ e), subst (λ (z : ℕ). z ≤ mostDepth) (sym d) (w .queued .depth-low))
 
-  ended : (k : Kind) (t : Tree) (o : Option ℕ) (b : Named) (v : Value) (fits : Fits s k t o) (x : St) → Inside (G s w k t o b v fits) nobody x → x .stuck ≡ s .stuck → x .queue ≡ s .queue → x .depth ≡ s .depth → Well s x
+  pub ended : (k : Kind) (t : Tree) (o : Option ℕ) (b : Named) (v : Value) (fits : Fits s k t o) (x : St) → Inside (G s w k t o b v fits) nobody x → x .stuck ≡ s .stuck → x .queue ≡ s .queue → x .depth ≡ s .depth → Well s x
   ended k t o b v fits x i e q d = let z = at-depth x q d in record { formed = at-rest (G s w k t o b v fits) x (new-static s w k t o b v fits) i (z .0) (z .1); stuck = e }
 
   pub signal-well : (v : Value) → Fits s signal (constant (pos 0)) none → Well s (newSignal s v)
@@ -336,39 +332,3 @@ module _ (s : St) (w : WellFormed s) where
         queued = λ j a. m .flag;
       } in
       ended scope c o f0 nothing fits x (let-out g nobody x (s .size) (m .inside) r) (m .stuck) (m .queue) (m .depth)
-
-  pub effect-reads : (o : Option ℕ) (t : Tree) → Fits s effect t o → (m : ℕ) → m < s .size → s .kind m ≡ effect → ReadsStay s (newEffect s o t) m
-  unfolding newEffect readLinks logged
-  effect-reads o t fits m h km =
-      let n = s .size in
-      let d = made s w effect t f6 nothing refl o fits (λ p e. refl) in
-      let x = owned (node s effect t o f6 nothing) n o in
-      let g = G s w effect t o f6 nothing fits in
-      let st = new-static s w effect t o f6 nothing fits in
-      let kn = kind-new s w effect t o f6 nothing fits n refl in
-      let left = subst (λ (z : List ℕ). length (readLinks (g .kind) (x .dep) z) ≤ length (names (g .form n))) (sym (d .rest)) (omega arith) in
-      let e : x .form n ≡ g .form n = ap (λ (z : Given). z .form n) (d .inside .same) in
-      let y = newEffect s o t in
-      let ok : x .kind ≡ g .kind = ap (λ (z : Given). z .kind) (d .inside .same) in
-      let still = evaluate-ring Still renews-still x n in
-      let r = first-reads g st n (omega arith) kn x x (d .inside) (d .owns) (d .inside) (frame-same g (Near g st n) n x) (d .done) left m (up-other (s .kind) n effect m (λ q. omega arith) ∙ km) (λ q. omega arith) in
-      let z : SameReads (g .kind) x y m = subst (λ (f : Tree). SameReads (g .kind) x (setFl (logged (evalBy (readW (fresh (x .size)) n) f x) n) n f2) m) (sym e) r in
-      stay-then s x y m (d .reads m h) (same-stay (g .kind) x y m ok (ap (λ (f : Fixed). f .nodes .kind) (still .same) ∙ ok) z)
-
-  pub effect-well : (o : Option ℕ) (t : Tree) → Fits s effect t o → Well s (newEffect s o t)
-  unfolding newEffect readLinks logged
-  effect-well o t fits =
-      let n = s .size in
-      let m = made s w effect t f6 nothing refl o fits (λ p e. refl) in
-      let x = owned (node s effect t o f6 nothing) n o in
-      let g = G s w effect t o f6 nothing fits in
-      let st = new-static s w effect t o f6 nothing fits in
-      let kn = kind-new s w effect t o f6 nothing fits n refl in
-      let nq : In n (x .queue) → ⊥ = λ j. not-queued s w effect t o f6 nothing fits (subst (In n) (m .queue) j) in
-      let left = subst (λ (z : List ℕ). length (readLinks (g .kind) (x .dep) z) ≤ length (names (g .form n))) (sym (m .rest)) (omega arith) in
-      let e : x .form n ≡ g .form n = ap (λ (z : Given). z .form n) (m .inside .same) in
-      let r = first-run g st n (omega arith) kn x x (m .inside) (m .owns) (m .inside) (frame-same g (Near g st n) n x) (m .done) left (m .rest) nq in
-      let y = newEffect s o t in
-      let z : Goes-on g nobody x y = subst (λ (f : Tree). Goes-on g nobody x (setFl (logged (evalBy (readW (fresh (x .size)) n) f x) n) n f2)) (sym e) r in
-      let still = evaluate-ring Still renews-still x n in
-      ended effect t o f6 nothing fits y (z .inside) (z .stuck ∙ m .stuck) (ap (λ (f : Fixed). f .queue) (still .same) ∙ m .queue) (ap (λ (f : Fixed). f .depth) (still .same) ∙ m .depth)

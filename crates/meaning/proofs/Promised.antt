@@ -1,7 +1,7 @@
 -- What document 01 says of an accepted command, from any well-formed tables: the theorems to read. Their labour stands elsewhere. Assumes nothing.
 -- Beside them: `command-kept`, `never-stuck` (Accepted), `command-stays` (Kept), `links-bound` (Bound), `given-exactly`, `refused-unchanged` (Refused), and the laws of Steps.
-use mathlib.Core.Path.{_≡_, refl, sym, _∙_, subst}
-use mathlib.Core.Logic.{_⊎_, _↔_}
+use mathlib.Core.Path.{_≡_, refl, sym, ap, _∙_, subst}
+use mathlib.Core.Logic.{_⊎_, inl, _↔_}
 use mathlib.Core.Bool.{true, false}
 use mathlib.Core.List.{List, [], _∷_}
 use mathlib.Core.Option.{some}
@@ -13,22 +13,23 @@ use lib.ListN.{length, drop}
 use borrow.Author.Tests.{leb-false, ltb-false}
 use Rattle.primitive.specs.declared.values.Value.{Value}
 use Rattle.meaning.specs.State.{St, Row, signal, computed, readable, deps, unclean, f2, f17}
-use Rattle.meaning.specs.Setters.{withQueue, withDepth, setFl, setPend}
+use Rattle.meaning.specs.Setters.{withQueue, withDepth, withLog, setFl, setPend}
 use Rattle.meaning.specs.Links.{several, cut, unlink}
 use Rattle.meaning.specs.Marks.{Marks, marksOf, notify, prop, propagate}
-use Rattle.meaning.specs.Words.{Command, disposeOf, commandOf}
+use Rattle.meaning.specs.Words.{Command, makeEffect, disposeOf, commandOf, ownerOf, formulaOf}
 use Rattle.meaning.specs.Reserve.{total, reserveOf, reserve}
 use Rattle.meaning.specs.Refusals.{sightOf, asksOf}
 use Rattle.meaning.specs.WellFormed.{In, Once, WellFormed}
 use Rattle.meaning.specs.Reach.{Reached}
 use Rattle.meaning.specs.Owners.{Below}
 use Rattle.meaning.specs.Moments.{flushing}
-use Rattle.meaning.specs.Commands.{Answer, command, runs}
+use Rattle.meaning.specs.Commands.{number, perform, Answer, command, runs}
+use Rattle.meaning.specs.Outcome.{firstRow, flushes, MayRun, made, flushed, MustGo, disposed, owned as had}
 use Rattle.meaning.proofs.Laws.{clash, either}
 use Rattle.meaning.proofs.Rings.{Runs}
 use Rattle.meaning.proofs.Still.{given}
 use Rattle.meaning.proofs.Flush.{whos}
-use Rattle.meaning.proofs.Performed.{known, rows-are}
+use Rattle.meaning.proofs.Performed.{performed, known, rows-are}
 use Rattle.meaning.proofs.Stuck.{stack-full, queue-full}
 use Rattle.meaning.proofs.Inside.{nobody, static, rest-inside}
 use Rattle.meaning.proofs.Room.{liveLinks, room-at-rest}
@@ -37,10 +38,11 @@ use Rattle.meaning.proofs.Kept.{command-stays}
 use Rattle.meaning.proofs.Walking.{i-written, i-propagated, propagate-turns}
 use Rattle.meaning.proofs.Made.{at-rest}
 use Rattle.meaning.proofs.Accepted.{command-kept}
-use Rattle.meaning.proofs.Rows.{command-told}
+use Rattle.meaning.proofs.Owning.{below-high}
+use Rattle.meaning.proofs.Outcome.{new-row, command-told}
 use Rattle.meaning.proofs.Moments.{flushing-queue, drop-once, gone-passed}
 use Rattle.meaning.proofs.Marked.{marks-exactly}
-use Rattle.meaning.proofs.Disposed.{gone-below, below-stays, disposed, givenBack, reserve-back}
+use Rattle.meaning.proofs.Disposed.{gone-below, below-stays, disposed as disposal, givenBack, reserve-back}
 use Rattle.meaning.proofs.Unwatched.{becomes-17, stays}
 use Rattle.meaning.proofs.Throughout.{InRoom, in-room}
 
@@ -70,9 +72,35 @@ module _ (s : St) (rows : ℕ) (ws : List ℤ) (w : WellFormed s) (ok : command 
   pub rows-once : Once (whos (a .rows))
   rows-once = let k = known s rows ws ok in subst (λ (r : List Row). Once (whos r)) (sym (rows-are s rows ws ok)) (command-told s rows w ws (k .0) (k .1) ok .once)
 
+  -- each row is of the new effect, or of an effect live at entry in a command that flushes
+  pub rows-whose : (c : Command) → commandOf ws ≡ some c → (e : ℕ) → In e (whos (a .rows)) → MayRun s c e
+  rows-whose c q e j = command-told s rows w ws c q ok .whose e (told e j)
+
   -- no effect runs that was gone
   pub rows-live : (e : ℕ) → In e (whos (a .rows)) → e < s .size → s .gone e ≡ false
-  rows-live e j = let k = known s rows ws ok in command-told s rows w ws (k .0) (k .1) ok .lives e (told e j)
+  rows-live e j h = let k = known s rows ws ok in go (rows-whose (k .0) (k .1) e j)
+    where
+      go : {c : Command} → MayRun s c e → s .gone e ≡ false
+      go (made o cs q z) = absurd (omega arith)
+      go (flushed f l k g) = g
+
+  -- a new effect has one row, of its number and its value, and its number is answered
+  pub new-effect-runs : (o : ℤ) (cs : List ℤ) → commandOf ws ≡ some (makeEffect o cs) → (a .rows ≡ firstRow (withLog s []) (ownerOf o) (formulaOf cs) ∷ []) × (a .val ≡ number s)
+  unfolding perform
+  new-effect-runs o cs q = let p = performed s rows ws (makeEffect o cs) q ok .0 in (ap (λ (z : Answer). z .rows) p ∙ new-row (withLog s []) (ownerOf o) (formulaOf cs), ap (λ (z : Answer). z .val) p)
+
+  -- where no effect is new and nothing is flushed there is no row
+  pub no-rows : (c : Command) → commandOf ws ≡ some c → ((o : ℤ) (cs : List ℤ) → c ≡ makeEffect o cs → ⊥) → flushes c (s .depth) ≡ false → a .rows ≡ []
+  unfolding whos
+  no-rows c q plain still = go (a .rows) (λ e j. none-may (rows-whose c q e j))
+    where
+      none-may : {e : ℕ} → MayRun s c e → ⊥
+      none-may (made o cs z h) = plain o cs z
+      none-may (flushed f l k g) = clash f still
+
+      go : (rs : List Row) → ((e : ℕ) → In e (whos rs) → ⊥) → rs ≡ []
+      go [] h = refl
+      go (r ∷ rs) h = absurd (h (r .who) (inl refl))
 
   bare : (n : ℕ) → n < s .size → t .gone n ≡ true → Bare t n
   bare n h g = let m = command-stays true s rows ws .more in let x = formed .depends .gone-bare n (omega arith) g in (g, x .0, x .1)
@@ -86,21 +114,37 @@ module _ (s : St) (rows : ℕ) (ws : List ℤ) (w : WellFormed s) (ok : command 
   pub rerun-disposes : (e y n : ℕ) → In e (whos (a .rows)) → s .owner y ≡ some e → Below (s .owner) y n → y < s .size → n < s .size → Bare t n
   rerun-disposes e y n j q b h l =
       let k = known s rows ws ok in
-      all-below y n (command-told s rows w ws (k .0) (k .1) ok .disposed e y (told e j) h q) b l
+      all-below y n (command-told s rows w ws (k .0) (k .1) ok .disposes e y (told e j) h q) b l
 
   -- ---- a dispose of x
   module _ (x : ℕ) (is : commandOf ws ≡ some (disposeOf (pos x))) where
     -- x is gone, with all it owns
     pub gone-with-all : (n : ℕ) → Below (s .owner) x n → n < s .size → Bare t n
-    gone-with-all n b h = all-below x n (disposed s rows w ws x is ok .gone) b h
+    gone-with-all n b h = all-below x n (disposal s rows w ws x is ok .gone) b h
 
     -- nothing else goes
     pub nothing-else-goes : (n : ℕ) → (Below (s .owner) x n → ⊥) → n < s .size → t .gone n ≡ s .gone n
-    nothing-else-goes n f h = disposed s rows w ws x is ok .others n h f
+    nothing-else-goes n f h = disposal s rows w ws x is ok .others n h f
 
     -- disposal gives the reserve back: that of each node which goes
     pub reserve-comes-back : reserve t + total (λ n. givenBack (s .gone n) (t .gone n) (reserveOf (s .kind n) false (s .form n) (s .owner n))) (s .size) ≡ reserve s
-    reserve-comes-back = reserve-back s t formed (disposed s rows w ws x is ok .keeps)
+    reserve-comes-back = reserve-back s t formed (disposal s rows w ws x is ok .keeps)
+
+  -- ---- who goes
+  -- of the nodes there were: what is disposed, and what effects with a row owned, with all below them; nothing else
+  pub goes-exactly : (c : Command) → commandOf ws ≡ some c → (n : ℕ) → n < s .size → s .gone n ≡ false → (t .gone n ≡ true) ↔ MustGo s c (whos (a .rows)) n
+  goes-exactly c q n h f = (λ g. subst (λ (r : List Row). MustGo s c (whos r) n) (sym (rows-are s rows ws ok)) (command-told s rows w ws c q ok .goes n h (owns g) f g), go)
+    where
+      owns : t .gone n ≡ true → readable (s .kind n) ≡ false
+      owns g = either (readable (s .kind n)) (λ r. clash g (let m = command-stays true s rows ws .more in formed .depends .gone-kind n (omega arith) (ap readable (command-stays true s rows ws .kind n h) ∙ r))) (λ r. r)
+
+      go : MustGo s c (whos (a .rows)) n → t .gone n ≡ true
+      go (disposed x e b) = gone-with-all x (q ∙ ap some e) n b h .0
+      go (had e j p) = let l = below-high (s .owner) (s .size) (w .depends .owner-lower) (p .0) n h (p .2) in rerun-disposes e (p .0) n j (p .1) (p .2) (omega arith) h .0
+
+  -- what is new is not gone
+  pub new-lives : (n : ℕ) → s .size ≤ n → n < t .size → t .gone n ≡ false
+  new-lives = let k = known s rows ws ok in command-told s rows w ws (k .0) (k .1) ok .lives
 
   -- live links are at most the reserve, and that at most the slots: before and after the command (inside it: `room-throughout`, `room-during`, `made-in-room`)
   pub room-kept : (liveLinks s ≤ reserve s) × (reserve s ≤ s .room .slots) × (liveLinks t ≤ reserve t) × (reserve t ≤ t .room .slots)

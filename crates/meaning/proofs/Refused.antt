@@ -1,16 +1,17 @@
 -- Each refusal number is given exactly when its row holds and no lower number applies; a refused command changes nothing. Assumes nothing.
-use mathlib.Core.Path.{_≡_, refl, sym, _∙_, subst}
+use mathlib.Core.Path.{_≡_, refl, sym, ap, _∙_, subst}
 use mathlib.Core.Logic.{_⊎_, inl, inr, _↔_}
 use mathlib.Core.Bool.{Bool, true, false, not}
 use mathlib.Core.List.{List, [], _∷_}
+use mathlib.Core.Option.{Option, some}
 use Prim.Native.Nat.{ℕ, zero, suc, _+_, _<_}
 use native.Mathlib.Omega.{arith}
 use lib.IntN.{ℤ}
 use lib.ListN.{getD}
-use borrow.Author.Tests.{not-true}
+use borrow.Author.Tests.{eq-eqb, not-true}
 use Rattle.meaning.specs.State.{St, nothing}
-use Rattle.meaning.specs.Words.{commandOf}
-use Rattle.meaning.specs.Refusals.{sightOf, table, first, refusal}
+use Rattle.meaning.specs.Words.{Command, batchEnd, commandOf}
+use Rattle.meaning.specs.Refusals.{sightOf, asksOf, unknown, wrongNode, goneNode, badFormula, tooHigh, noRoom, wrongDepth, table, first, refusal}
 use Rattle.meaning.specs.WellFormed.{WellFormed}
 use Rattle.meaning.specs.Commands.{runs, answer, command}
 use Rattle.meaning.proofs.Laws.{false≢true, clash}
@@ -112,6 +113,21 @@ module _ (well : Bool) (s : St) (rows : ℕ) (ws : List ℤ) where
       go : (WellFormed s → ⊥) → (b : Bool) → well ≡ b → not b ≡ true
       go h true e = absurd (h (tells .0 e))
       go h false e = refl
+
+  -- an end at depth 0 is refused by 8: over lists it would be stuck (`no-end`)
+  pub end-refused : well ≡ true → commandOf ws ≡ some batchEnd → s .depth ≡ 0 → command well s rows ws .code ≡ 8
+  unfolding table unknown wrongNode goneNode badFormula tooHigh noRoom wrongDepth asksOf
+  end-refused a q e = given-exactly 7 .1 (subst (λ (o : Option Command). FirstHolds (table well (sightOf s rows) o) 7) (sym q) (eq-eqb (s .depth) 0 e, λ j l. before j l))
+    where
+      before : (j : ℕ) → j < 7 → getD (table well (sightOf s rows) (some batchEnd)) j false ≡ false
+      before zero l = ap not a
+      before (suc zero) l = refl
+      before (suc (suc zero)) l = refl
+      before (suc (suc (suc zero))) l = refl
+      before (suc (suc (suc (suc zero)))) l = refl
+      before (suc (suc (suc (suc (suc zero))))) l = refl
+      before (suc (suc (suc (suc (suc (suc zero)))))) l = refl
+      before (suc (suc (suc (suc (suc (suc (suc j))))))) l = absurd (omega arith)
 
   -- refused: value 0, runs 0, everything unchanged
   pub refused-unchanged : (command well s rows ws .code ≡ 0 → ⊥)

@@ -18,6 +18,7 @@ use Rattle.meaning.specs.Reads.{Out, evalBy, readW, fresh, settle, check
 use Rattle.meaning.specs.Marks.{isEffect}
 use Rattle.meaning.specs.Engine.{logged, rerun, run, flushOn}
 use Rattle.meaning.specs.Reserve.{reserveOf, ownedLink}
+use Rattle.meaning.specs.Owners.{Below}
 use Rattle.meaning.specs.WellFormed.{In, Once, readLinks, EffectFlags, watching, pushed, pending, dirty}
 use Rattle.meaning.proofs.Laws.{clash, false≢true, either, none-some, branch, up-same, up-other, in-left}
 use Rattle.meaning.proofs.Members.{append-is-nil, nil-none, reads-few, reads-agree}
@@ -29,7 +30,7 @@ use Rattle.meaning.proofs.Dropping.{flags-inside, rewind-inside, purge-
 use Rattle.meaning.proofs.Room.{ownerLinks, spends, Paid, rests-paid}
 use Rattle.meaning.proofs.Frames.{others, Low, Frame, frame-flags, frame-same, frame-then, frame-wider, frame-reads, Open}
 use Rattle.meaning.proofs.Binding.{SameReads, reads-then}
-use Rattle.meaning.proofs.Reading.{settle-inside, Near, reads-of, During, eval-during}
+use Rattle.meaning.proofs.Reading.{Settled, settle-inside, Near, reads-of, During, eval-during}
 use Rattle.meaning.proofs.Updating.{Checked, check-inside, fresh-inside}
 
 -- well-formed inside, and not stuck unless it was
@@ -48,18 +49,19 @@ module _ (g : Given) (st : Static g) where
   nobody-open s = record { known = λ n. inr (λ x. x); pays = λ n h x. absurd x }
 
   -- ---- a read
-  pub read-inside : (s : St) (n : ℕ) → Inside g nobody s → n < g .size → readable (g .kind n) ≡ true → Goes-on g nobody s (settle s n)
-  read-inside s n i h r =
-      let e = size-is nobody s i in
-      let w = settle-inside g st (s .size) (fresh (s .size)) (fresh-inside g st (s .size)) nobody s n i (nobody-open s) h r (λ m x q. absurd x) (omega arith) in
-      record { inside = w .inside; stuck = w .frame .stuck }
+  module _ (s : St) (n : ℕ) (i : Inside g nobody s) (h : n < g .size) (r : readable (g .kind n) ≡ true) where
+    settled : Settled g st nobody s n (settle s n)
+    settled = let e = size-is nobody s i in settle-inside g st (s .size) (fresh (s .size)) (fresh-inside g st (s .size)) nobody s n i (nobody-open s) h r (λ m x q. absurd x) (omega arith)
 
-  -- it leaves the links of effects alone
-  pub read-reads : (s : St) (n : ℕ) → Inside g nobody s → n < g .size → readable (g .kind n) ≡ true → (e : ℕ) → g .kind e ≡ effect → SameReads (g .kind) s (settle s n) e
-  read-reads s n i h r e k =
-      let z = size-is nobody s i in
-      let w = settle-inside g st (s .size) (fresh (s .size)) (fresh-inside g st (s .size)) nobody s n i (nobody-open s) h r (λ m x q. absurd x) (omega arith) in
-      frame-reads g st nobody (Low g (suc (rank n))) (suc n) s (settle s n) e i (w .frame) (λ p. clash (ap isEffect k) (ap isEffect (p .0)))
+    pub read-inside : Goes-on g nobody s (settle s n)
+    read-inside = record { inside = settled .inside; stuck = settled .frame .stuck }
+
+    -- it leaves the links of effects alone, and every mark
+    pub read-reads : (e : ℕ) → g .kind e ≡ effect → SameReads (g .kind) s (settle s n) e
+    read-reads e k = frame-reads g st nobody (Low g (suc (rank n))) (suc n) s (settle s n) e i (settled .frame) (λ p. clash (ap isEffect k) (ap isEffect (p .0)))
+
+    pub read-marks : (m : ℕ) → readable (g .kind m) ≡ false → settle s n .gone m ≡ s .gone m
+    read-marks = settled .frame .gone
 
   -- who has read links only has lost what it owned
   pub owned-gone : (t : St) → Inside g nobody t → (e : ℕ) → ((l : ℕ) → In l (deps t e) → readable (g .kind (t .dep l)) ≡ true) → (y : ℕ) → y < g .size → g .owner y ≡ some e → t .gone y ≡ true
@@ -149,6 +151,10 @@ module _ (g : Given) (st : Static g) where
     abbrev Disposed : St → Type 0
     Disposed t = (y : ℕ) → y < g .size → g .owner y ≡ some e → t .gone y ≡ true
 
+    -- nothing else goes
+    abbrev Spared : St → St → Type 0
+    Spared s t = (m : ℕ) → readable (g .kind m) ≡ false → (Below (g .owner) e m × (m ≡ e → ⊥) → ⊥) → t .gone m ≡ s .gone m
+
     -- ---- the run itself, from s₁, where e has flags 6 and its cursor before its first link
     module _ (s s₁ : St) (i : Inside g (Run e) s) (l : Owns s e) (i₁ : Inside g (Run e) s₁) (f₁ : Frame g (Near g st e) (rank e) s s₁) (empty : s₁ .done e ≡ []) (left : length (readLinks (g .kind) (s₁ .dep) (s₁ .rest e)) ≤ reads-of g st e) where
       pub begin : During g st (Run e) e s₁ 0 s₁
@@ -232,7 +238,7 @@ module _ (g : Given) (st : Static g) where
       unfolding logged
       first-reads m k ne = let r = went-reads m k ne in record { links = r .links; ends = r .ends }
 
-      later-run : (In e (s₁ .queue) → ⊥) → Goes-on g nobody s (purge ended e) × Others s (purge ended e) × Disposed (purge ended e)
+      later-run : (In e (s₁ .queue) → ⊥) → Goes-on g nobody s (purge ended e) × Others s (purge ended e) × Disposed (purge ended e) × Spared s (purge ended e)
       unfolding logged
       later-run nq =
           let p = purge-inside g st (Run e) ended e i-ended (inr refl) apart in
@@ -254,6 +260,7 @@ module _ (g : Given) (st : Static g) where
             record { inside = it; stuck = d .stuck ∙ f-went .stuck },
             λ m h k ne a. reads-then (g .kind) s ended t m (first-reads m k ne) (purge-reads g st (Run e) ended t e m p h k (off m ne) ne a),
             owned-gone t it e (λ l j. ap (λ (z : ℕ → ℕ). readable (g .kind (z l))) (d .dep) ∙ went .reads l (subst (In l) all j)),
+            λ m r f. d .flags m (λ z. f (z .0 .owned r, z .1)) .1 ∙ f-went .gone m r,
           )
         where
           off : (m : ℕ) → (m ≡ e → ⊥) → Run e m → ⊥
@@ -262,7 +269,7 @@ module _ (g : Given) (st : Static g) where
           apart : (m : ℕ) → Under g e m × (m ≡ e → ⊥) → Run e m → ⊥
           apart m p (inr q) = p .1 q
 
-    rerun-inside : (s : St) → Inside g (Run e) s → Lies s e → s .fl e .pending ≡ true → (In e (s .queue) → ⊥) → Goes-on g nobody s (rerun s e) × Others s (rerun s e) × Disposed (rerun s e)
+    rerun-inside : (s : St) → Inside g (Run e) s → Lies s e → s .fl e .pending ≡ true → (In e (s .queue) → ⊥) → Goes-on g nobody s (rerun s e) × Others s (rerun s e) × Disposed (rerun s e) × Spared s (rerun s e)
     unfolding rerun
     rerun-inside s i l pd nq =
         let c = withCycle s (raised (s .cycle)) in
@@ -275,7 +282,7 @@ module _ (g : Given) (st : Static g) where
         (λ m q. kept m q) in
         let all : s₁ .rest e ≡ s .done e = up-same (s .rest) e (s .done e ++ s .rest e) ∙ ap (λ (x : List ℕ). s .done e ++ x) (l .tail) ∙ append-nil (s .done e) in
         let few : length (readLinks (g .kind) (s .dep) (s₁ .rest e)) ≤ reads-of g st e = subst (λ (x : List ℕ). length (readLinks (g .kind) (s .dep) x) ≤ reads-of g st e) (sym all) (l .few) in
-        subst (λ (t : Tree). let x = purge (setFl (logged (evalBy (readW (fresh (s .size)) e) t s₁) e) e f2) e in Goes-on g nobody s x × Others s x × Disposed x) (sym (ap (λ (z : Given). z .form e) (i .same)))
+        subst (λ (t : Tree). let x = purge (setFl (logged (evalBy (readW (fresh (s .size)) e) t s₁) e) e f2) e in Goes-on g nobody s x × Others s x × Disposed x × Spared s x) (sym (ap (λ (z : Given). z .form e) (i .same)))
         (later-run s s₁ i (l .owns) i₁ f₁ (up-same (s .done) e []) few nq)
       where
         kept : (m : ℕ) → s .fl m ≡ f1 → up (s .fl) e f6 m ≡ f1
@@ -345,12 +352,13 @@ module _ (g : Given) (st : Static g) where
           at : (n : ℕ) → Run e n → Paid g s′ n
           at n (inr z) = subst (Paid g s′) (sym z) (record { enough = rests-paid g st nobody s e i he was .enough })
 
-      -- well-formed and not stuck; effects that are still live keep their read links, but for e if it has a row, and then what it owned is gone
+      -- well-formed and not stuck; effects that are still live keep their read links, but for e if it has a row, and then what it owned is gone, and nothing else
       pub record RunOn (t : St) : Type 0 where
         pub inside : Inside g nobody t
         pub stuck : t .stuck ≡ s .stuck
         pub reads : (m : ℕ) → m < g .size → g .kind m ≡ effect → t .gone m ≡ false → SameReads (g .kind) s t m ⊎ ((m ≡ e) × (t .log ≡ s .log → ⊥))
         pub disposed : (t .log ≡ s .log → ⊥) → Disposed t
+        pub spared : (m : ℕ) → readable (g .kind m) ≡ false → ((t .log ≡ s .log → ⊥) → Below (g .owner) e m × (m ≡ e → ⊥) → ⊥) → t .gone m ≡ s .gone m
 
       has-row : (t : St) → t .log ≡ s .log → rerun t e .log ≡ s .log → ⊥
       has-row t q z =
@@ -360,12 +368,13 @@ module _ (g : Given) (st : Static g) where
           let c = ap (λ (x : List Row). length x) q in
           omega arith
 
-      rerun-on : (t : St) → t .log ≡ s .log → t .stuck ≡ s .stuck → ((m : ℕ) → g .kind m ≡ effect → SameReads (g .kind) s t m) → Goes-on g nobody t (rerun t e) × Others t (rerun t e) × Disposed (rerun t e) → RunOn (rerun t e)
-      rerun-on t q k same w = record {
+      rerun-on : (t : St) → t .log ≡ s .log → t .stuck ≡ s .stuck → ((m : ℕ) → g .kind m ≡ effect → SameReads (g .kind) s t m) → ((m : ℕ) → readable (g .kind m) ≡ false → t .gone m ≡ s .gone m) → Goes-on g nobody t (rerun t e) × Others t (rerun t e) × Disposed (rerun t e) × Spared t (rerun t e) → RunOn (rerun t e)
+      rerun-on t q k same marks w = record {
         inside = w .0 .inside;
         stuck = w .0 .stuck ∙ k;
         reads = λ m h z a. either (eqb m e) (λ y. inr (eqb-true m e y, has-row t q)) (λ y. inl (reads-then (g .kind) s t (rerun t e) m (same m z) (w .1 m h z (eqb-false m e y) a)));
         disposed = λ z. w .2;
+        spared = λ m r f. w .3 m r (f (has-row t q)) ∙ marks m r;
       }
 
       -- it does not run
@@ -373,7 +382,7 @@ module _ (g : Given) (st : Static g) where
       calmed c =
           let t = setFl s′ e f2 in
           let it : Inside g (Run e) t = flags-inside g (Run e) s′ e popped (inr refl) f2 (λ z. false≢true z) in
-          record { inside = let-out g nobody t e it (at c); stuck = refl; reads = λ m h k a. inl (record { links = refl; ends = λ l j. refl }); disposed = λ z. absurd (z refl) }
+          record { inside = let-out g nobody t e it (at c); stuck = refl; reads = λ m h k a. inl (record { links = refl; ends = λ l j. refl }); disposed = λ z. absurd (z refl); spared = λ m r f. refl }
         where
           at : (s .gone e ≡ true) ⊎ (s .gone e ≡ false) → Rests g (setFl s′ e f2) e
           at (inl a) = record {
@@ -433,7 +442,7 @@ module _ (g : Given) (st : Static g) where
             let c = check s′ e in
             let t = c .st in
             branch RunOn (c .yes)
-            (λ y. rerun-on t (ap (λ (f : Fixed). f .log) (check-ring Still renews-still s′ e .same)) (checked .frame .stuck) checked-reads
+            (λ y. rerun-on t (ap (λ (f : Fixed). f .log) (check-ring Still renews-still s′ e .same)) (checked .frame .stuck) checked-reads (checked .frame .gone)
             (rerun-inside t (checked .inside) lies-checked (checked .frame .pending e e-far (λ k. clash (ap readable k) re) ∙ pd) not-queued))
             (λ y. let x = setFl t e f2 in
             let l = lies-checked in
@@ -444,6 +453,7 @@ module _ (g : Given) (st : Static g) where
               stuck = checked .frame .stuck;
               reads = λ m h k a. inl (let r = checked-reads m k in record { links = r .links; ends = r .ends });
               disposed = λ z. absurd (z (ap (λ (f : Fixed). f .log) (check-ring Still renews-still s′ e .same)));
+              spared = λ m r f. checked .frame .gone m r;
             })
 
       pub run-inside : RunOn (run s′ e)
@@ -460,7 +470,7 @@ module _ (g : Given) (st : Static g) where
               go a (watching x y) = clash d (ap (λ (z : Named). z .dirty) x)
               go a (pushed x y) = clash d (ap (λ (z : Named). z .dirty) x)
               go a (pending x y z) = clash d (ap (λ (z : Named). z .dirty) x)
-              go a (dirty x y z) = rerun-on s′ refl refl (λ m k. record { links = refl; ends = λ l j. refl }) (rerun-inside s′ popped (lies a) (ap (λ (z : Named). z .pending) x) (ones .0))
+              go a (dirty x y z) = rerun-on s′ refl refl (λ m k. record { links = refl; ends = λ l j. refl }) (λ m r. refl) (rerun-inside s′ popped (lies a) (ap (λ (z : Named). z .pending) x) (ones .0))
 
           at-pending : s .fl e .pending ≡ true → RunOn (elim (check s′ e .yes) [ true ↦ rerun (check s′ e .st) e | false ↦ setFl (check s′ e .st) e f2 ])
           at-pending p = either (s .gone e) (λ a. clash p (ap (λ (z : Named). z .pending) (was .queued (subst (In e) (sym is) (inl refl)) a))) (λ a. go a (was .of-effect ke a))

@@ -13,26 +13,30 @@ use Rattle.meaning.specs.Setters.{withCycle, setFl, setSto, setGone}
 use Rattle.meaning.specs.Links.{isNil, headOf, each, cut, rewind, purgeW, lastLink, disposeW, unwatchedW, unlinkN, budget, purge}
 use Rattle.meaning.specs.Reads.{Ans, evalBy, firstW, updComputed, check}
 use Rattle.meaning.specs.Engine.{logged, rerun, run}
-use Rattle.meaning.proofs.Laws.{either, branch, up-same}
-use Rattle.meaning.proofs.Members.{isNil-true}
+use Rattle.meaning.proofs.Laws.{clash, branch, up-same}
+use Rattle.meaning.proofs.Members.{isNil-true, isNil-false}
 
 -- ---- a run
--- an effect with no flag, as a gone one, does not run: its flags become 2
-pub no-flag-no-run : (s : St) (e : ℕ) → s .fl e ≡ f0 → run s e ≡ setFl s e f2
-unfolding run
-no-flag-no-run s e h = rw (ap (λ (f : Named). f .dirty) h, run, ap (λ (f : Named). f .pending) h)
-
--- its reads decide: a pending effect runs exactly if the check of them says so
-pub reads-decide : (s : St) (e : ℕ) → s .fl e .dirty ≡ false → s .fl e .pending ≡ true
-    → (check s e .yes ≡ true → run s e ≡ rerun (check s e .st) e) × (check s e .yes ≡ false → run s e ≡ setFl (check s e .st) e f2)
-unfolding run
-reads-decide s e d p = (λ y. rw (d, run, p, y), λ y. rw (d, run, p, y))
-
 -- any run, by its cases
 pub run-by : (P : St → Type 0) (s : St) (e : ℕ) → (s .fl e .dirty ≡ true → P (rerun s e)) → (s .fl e .pending ≡ true → check s e .yes ≡ true → P (rerun (check s e .st) e))
     → (s .fl e .pending ≡ true → check s e .yes ≡ false → P (setFl (check s e .st) e f2)) → (s .fl e .pending ≡ false → P (setFl s e f2)) → P (run s e)
 unfolding run
 run-by P s e a b c d = branch P (s .fl e .dirty) a (λ x. branch P (s .fl e .pending) (λ y. branch P (check s e .yes) (b y) (c y)) d)
+
+-- an effect with no flag, as a gone one, does not run: its flags become 2
+pub no-flag-no-run : (s : St) (e : ℕ) → s .fl e ≡ f0 → run s e ≡ setFl s e f2
+no-flag-no-run s e h =
+    let d = ap (λ (f : Named). f .dirty) h in
+    let p = ap (λ (f : Named). f .pending) h in
+    run-by (λ (t : St). t ≡ setFl s e f2) s e (λ x. clash x d) (λ x y. clash x p) (λ x y. clash x p) (λ x. refl)
+
+-- its reads decide: a pending effect runs exactly if the check of them says so
+pub reads-decide : (s : St) (e : ℕ) → s .fl e .dirty ≡ false → s .fl e .pending ≡ true
+    → (check s e .yes ≡ true → run s e ≡ rerun (check s e .st) e) × (check s e .yes ≡ false → run s e ≡ setFl (check s e .st) e f2)
+reads-decide s e d p = (
+  λ y. run-by (λ (t : St). t ≡ rerun (check s e .st) e) s e (λ x. clash x d) (λ x z. refl) (λ x z. clash y z) (λ x. clash p x),
+  λ y. run-by (λ (t : St). t ≡ setFl (check s e .st) e f2) s e (λ x. clash x d) (λ x z. clash z y) (λ x z. refl) (λ x. clash p x),
+)
 
 -- ---- the cycle: raised before a re-evaluation, of a computed or an effect, and not at a first one; here of a formula that reads nothing
 module _ (s : St) (n : ℕ) (k : ℤ) (f : s .form n ≡ constant k) (d : s .done n ≡ []) (r : s .rest n ≡ []) where
@@ -53,18 +57,27 @@ module _ (s : St) (n : ℕ) (k : ℤ) (f : s .form n ≡ constant k) (d : s .don
   cycle-kept-at-first fr = rw (f) refl
 
 -- ---- unlink of the last subscriber link of a computed
+-- by its two cases
+last-by : (k : ℕ) (s : St) (l : ℕ) → s .live l ≡ true → cut s l .subs (s .dep l) ≡ [] → cut s l .fl (s .dep l) .mutable ≡ true → (P : St → Type 0) → (cut s l .done (s .dep l) ≡ [] → P (cut s l))
+    → ((cut s l .done (s .dep l) ≡ [] → ⊥) → P (purgeW (unlinkN k) (setFl (rewind (cut s l) (s .dep l)) (s .dep l) f17) (s .dep l))) → P (unlinkN (suc k) s l)
+unfolding unlinkN unwatchedW
+last-by k s l lv none-left mu P bare has =
+    let c = cut s l in
+    let d = s .dep l in
+    branch P (s .live l)
+    (λ a. branch P (isNil (c .subs d))
+    (λ b. branch P (c .fl d .mutable) (λ m. branch P (isNil (c .done d)) (λ e. bare (isNil-true (c .done d) e)) (λ e. has (isNil-false (c .done d) e))) (λ m. clash mu m))
+    (λ b. clash (ap isNil none-left) b))
+    (λ a. clash lv a)
+
 -- with dependencies it becomes 17, and they go
 pub falls-by : (k : ℕ) (s : St) (l : ℕ) → s .live l ≡ true → cut s l .subs (s .dep l) ≡ [] → cut s l .fl (s .dep l) .mutable ≡ true → (cut s l .done (s .dep l) ≡ [] → ⊥)
     → unlinkN (suc k) s l ≡ purgeW (unlinkN k) (setFl (rewind (cut s l) (s .dep l)) (s .dep l) f17) (s .dep l)
-unfolding unlinkN unwatchedW
-falls-by k s l lv none-left mu ne =
-    let some-left : isNil (cut s l .done (s .dep l)) ≡ false = either (isNil (cut s l .done (s .dep l))) (λ e. absurd (ne (isNil-true (cut s l .done (s .dep l)) e))) (λ e. e) in
-    rw (lv, unlinkN, none-left, mu, unwatchedW, some-left)
+falls-by k s l lv none-left mu ne = last-by k s l lv none-left mu (λ (t : St). t ≡ purgeW (unlinkN k) (setFl (rewind (cut s l) (s .dep l)) (s .dep l) f17) (s .dep l)) (λ e. absurd (ne e)) (λ e. refl)
 
 -- without any it stays as it is: nothing happens but that the link goes
 pub stays-by : (k : ℕ) (s : St) (l : ℕ) → s .live l ≡ true → cut s l .subs (s .dep l) ≡ [] → cut s l .fl (s .dep l) .mutable ≡ true → cut s l .done (s .dep l) ≡ [] → unlinkN (suc k) s l ≡ cut s l
-unfolding unlinkN unwatchedW
-stays-by k s l lv none-left mu bare = rw (lv, unlinkN, none-left, mu, unwatchedW, bare)
+stays-by k s l lv none-left mu bare = last-by k s l lv none-left mu (λ (t : St). t ≡ cut s l) (λ e. refl) (λ ne. absurd (ne bare))
 
 -- ---- the gone mark: an unlink that keeps it leaves it to the end of a disposal
 pub dispose-marks : (ul : St → ℕ → St) (s : St) (x : ℕ) → ((t : St) (l : ℕ) → t .gone x ≡ true → ul t l .gone x ≡ true) → disposeW ul s x .gone x ≡ true

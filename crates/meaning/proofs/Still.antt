@@ -63,12 +63,18 @@ unfolding insert
 insert-still s d u v [] = (refl, refl)
 insert-still s d u v (l ∷ ls) = (refl, refl)
 
-pub link-still : (s : St) (d u v : ℕ) → Still s (link s d u v)
+link-plain : (s : St) (d u v : ℕ) → Plain s (link s d u v)
 unfolding link
-link-still s d u v =
-    branch (Still s) (goesTo s (lastOf (s .done u)) d) (λ e. still s)
-    (λ e. branch (Still s) (goesTo s (headOf (s .rest u)) d) (λ f. plain s _ (renew-still s u v (s .rest u)))
-    (λ f. branch (Still s) (isFrom s (lastOf (s .subs d)) u v) (λ g. still s) (λ g. plain s _ (insert-still s d u v (s .free)))))
+link-plain s d u v =
+    branch (Plain s) (goesTo s (lastOf (s .done u)) d) (λ e. (refl, refl))
+    (λ e. branch (Plain s) (goesTo s (headOf (s .rest u)) d) (λ f. renew-still s u v (s .rest u))
+    (λ f. branch (Plain s) (isFrom s (lastOf (s .subs d)) u v) (λ g. (refl, refl)) (λ g. insert-still s d u v (s .free))))
+
+pub link-still : (s : St) (d u v : ℕ) → Still s (link s d u v)
+link-still s d u v = plain s _ (link-plain s d u v)
+
+pub link-marks : (s : St) (d u v : ℕ) → link s d u v .gone ≡ s .gone
+link-marks s d u v = link-plain s d u v .1
 
 pub drops-still : Drops Still
 drops-still = record {

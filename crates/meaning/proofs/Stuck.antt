@@ -35,7 +35,7 @@ no-reserve s d u v l ls h = or-last (s .stuck) (spent s) h
 -- a slot would be freed twice
 pub freed-twice : (k : ℕ) (s : St) (l : ℕ) → s .live l ≡ false → unlinkN (suc k) s l .stuck ≡ true
 unfolding unlinkN
-freed-twice k s l h = rw (h, unlinkN)
+freed-twice k s l h = branch (λ (x : St). x .stuck ≡ true) (s .live l) (λ e. clash e h) (λ e. refl)
 
 -- the budget of a ring or a walk ends
 pub no-budget : (s : St) (n : ℕ) (m : Marks) (w : List ℕ) (st : List (List ℕ))
@@ -70,7 +70,16 @@ no-update fr s n = (refl, refl)
 
 pub no-dependencies : (fr : St → ℕ → Ans) (s : St) (u : ℕ) → isNil (deps s u) ≡ true → checkW fr s u .st .stuck ≡ true
 unfolding checkW
-no-dependencies fr s u h = rw (h, checkW)
+no-dependencies fr s u h = branch (λ (x : Ans). x .st .stuck ≡ true) (isNil (deps s u)) (λ e. refl) (λ e. clash h e)
+
+-- an end at depth 0 (refused: `end-refused`), or words that are no command (refused by 2)
+pub no-end : (s : St) → s .depth ≡ 0 → perform s batchEnd .st .stuck ≡ true
+unfolding perform
+no-end s e = ap (λ (d : ℕ). endAt s d .stuck) e
+
+pub no-command : (s : St) → performAny s none .st .stuck ≡ true
+unfolding performAny
+no-command s = refl
 
 -- a watching subscriber would have to be notified by shallow propagate
 pub shallow-wakes : (s : St) (d : ℕ) → wakes (s .sub) (s .subs d) (s .fl) ≡ true → shallow s d .stuck ≡ true

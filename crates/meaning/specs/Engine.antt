@@ -95,9 +95,13 @@ newComputed s t = node s computed t none f0 nothing
 unfoldable pub newScope : St → Option ℕ → St
 newScope s o = owned (node s scope (constant (pos 0)) o f0 nothing) (s .size) o
 
+-- a new effect, about to run
+abbrev pub entered : St → Option ℕ → Tree → St
+entered s o t = owned (node s effect t o f6 nothing) (s .size) o
+
 -- it runs at once, and the cycle is not raised
 unfoldable pub newEffect : St → Option ℕ → Tree → St
-newEffect s o t = let n = s .size in let r = evaluate (owned (node s effect t o f6 nothing) n o) n in setFl (logged r n) n f2
+newEffect s o t = let n = s .size in let r = evaluate (entered s o t) n in setFl (logged r n) n f2
 
 -- ---- batches; an end at depth 0 is refused
 abbrev pub start : St → St

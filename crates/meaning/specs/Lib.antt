@@ -14,4 +14,5 @@ pub mod Cases
 pub mod Played
 pub mod Reach
 pub mod Owners
+pub mod Outcome
 pub mod Moments
