@@ -38,4 +38,5 @@ pub mod Marked
 pub mod Disposed
 pub mod Unwatched
 pub mod Throughout
+pub mod Stepped
 pub mod Promised

@@ -1,5 +1,6 @@
 -- A relation between the state before and after that holds of an operation's own steps, and from step to step, holds of the operation.
 -- The first ring (unlink, unwatched, dispose, purge), the second (read, check, update, evaluation), runs and the flush. Assumes nothing.
+use mathlib.Core.Path.{_≡_}
 use mathlib.Core.Bool.{true, false, not, _&&_}
 use mathlib.Core.List.{List, [], _∷_}
 use mathlib.Core.Option.{Option, none, some}
@@ -22,7 +23,7 @@ pub record Drops (R : St → St → Type 0) : Type 0 where
   pub same : (s : St) → R s s
   pub then : (s t x : St) → R s t → R t x → R s x
   pub stops : (s : St) → R s (stop s)
-  pub cuts : (s : St) (l : ℕ) → R s (cut s l)
+  pub cuts : (s : St) (l : ℕ) → s .live l ≡ true → R s (cut s l)
   pub bares : (s : St) (x : ℕ) → R s (setGone (setFl (rewind s x) x f0) x true)
   pub stales : (s : St) (d : ℕ) → R s (setFl (rewind s d) d f17)
 
@@ -57,8 +58,8 @@ module _ (R : St → St → Type 0) (r : Drops R) where
   unlink-ring (suc k) s l =
       branch (R s) (s .live l)
       (λ v. branch (R s) (isNil (cut s l .subs (s .dep l)))
-      (λ e. r .then s (cut s l) _ (r .cuts s l) (unwatched-ring (unlinkN k) (unlink-ring k) (cut s l) (s .dep l)))
-      (λ e. r .cuts s l))
+      (λ e. r .then s (cut s l) _ (r .cuts s l v) (unwatched-ring (unlinkN k) (unlink-ring k) (cut s l) (s .dep l)))
+      (λ e. r .cuts s l v))
       (λ v. r .stops s)
 
   pub purge-ring : (s : St) (u : ℕ) → R s (purge s u)
@@ -186,7 +187,7 @@ module _ (R S : St → St → Type 0) (weaker : (s t : St) → R s t → S s t) 
     same = λ s. weaker s s (r .same s);
     then = all;
     stops = λ s. weaker s _ (r .stops s);
-    cuts = λ s l. weaker s _ (r .cuts s l);
+    cuts = λ s l v. weaker s _ (r .cuts s l v);
     bares = λ s x. weaker s _ (r .bares s x);
     stales = λ s d. weaker s _ (r .stales s d);
   }
