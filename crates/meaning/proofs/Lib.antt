@@ -39,4 +39,5 @@ pub mod Disposed
 pub mod Unwatched
 pub mod Throughout
 pub mod Stepped
+pub mod Cycle
 pub mod Promised

@@ -1,11 +1,11 @@
 -- What document 01 says of an accepted command, from any well-formed tables: the theorems to read. Their labour stands elsewhere. Assumes nothing.
 -- Beside them: `command-kept`, `never-stuck` (Accepted), `command-stays` (Kept), `links-bound` (Bound), `given-exactly`, `refused-unchanged` (Refused), and the laws of Steps.
-use mathlib.Core.Path.{_≡_, refl, sym, _∙_, subst}
+use mathlib.Core.Path.{_≡_, refl, sym, ap, _∙_, subst}
 use mathlib.Core.Logic.{_⊎_, _↔_}
 use mathlib.Core.Bool.{true, false}
 use mathlib.Core.List.{List, [], _∷_}
 use mathlib.Core.Option.{some}
-use Prim.Native.Nat.{ℕ, suc, _+_, _≤_, _<_}
+use Prim.Native.Nat.{ℕ, suc, _+_, _≤_, _<_, _%_, _^_}
 use native.Mathlib.Omega.{arith}
 use lib.Dec.{leb, ltb}
 use lib.IntN.{ℤ, pos}
@@ -23,6 +23,7 @@ use Rattle.meaning.specs.WellFormed.{In, Once, WellFormed}
 use Rattle.meaning.specs.Reach.{Reached}
 use Rattle.meaning.specs.Owners.{Below}
 use Rattle.meaning.specs.Moments.{flushing, Steps, Moment, begun, reserveFrom}
+use Rattle.meaning.specs.Evaluations.{reevaluations}
 use Rattle.meaning.specs.Commands.{Answer, command, runs}
 use Rattle.meaning.proofs.Laws.{clash, either}
 use Rattle.meaning.proofs.Still.{given}
@@ -43,6 +44,7 @@ use Rattle.meaning.proofs.Disposed.{gone-below, below-stays, disposed, 
 use Rattle.meaning.proofs.Unwatched.{becomes-17, stays}
 use Rattle.meaning.proofs.Throughout.{few-live, moment-within}
 use Rattle.meaning.proofs.Stepped.{perform-steps, begun-within}
+use Rattle.meaning.proofs.Cycle.{perform-counts}
 
 -- n is gone, and has no links
 abbrev pub Bare : St → ℕ → Type 0
@@ -118,6 +120,10 @@ module _ (s : St) (rows : ℕ) (ws : List ℤ) (w : WellFormed s) (ok : command 
         let b = begun-within s rows w c (performed s rows ws c is ok .1) in
         let n = moment-within _ t x m (command-kept true s rows ws w .stuck ∙ e) (reserveFrom s c) (b .0) in
         (few-live (reserveFrom s c) x n, b .1)
+
+    -- ---- the cycle: raised once for each evaluation of the command that is not a first one; it wraps
+    pub cycle-counts : s .cycle < 2 ^ 64 → t .cycle ≡ (s .cycle + reevaluations (withLog s []) c) % 2 ^ 64
+    cycle-counts h = ap (λ (x : Answer). x .st .cycle) (performed s rows ws c is ok .0) ∙ perform-counts (withLog s []) c h
 
 -- ---- inside a command
 module _ (s : St) (w : WellFormed s) where

@@ -1,18 +1,15 @@
--- What single steps do, read off the definitions: a run, an update, unwatched, the gone mark. Assumes nothing.
-use mathlib.Core.Path.{_≡_, refl, sym, ap, _∙_, subst}
+-- What single steps do, read off the definitions: a run, unwatched, the gone mark. Assumes nothing.
+use mathlib.Core.Path.{_≡_, ap}
 use mathlib.Core.Bool.{true, false}
-use mathlib.Core.List.{List, [], _∷_, _++_}
+use mathlib.Core.List.{List, [], _∷_}
 use mathlib.Core.Option.{Option, none, some}
 use Prim.Native.Nat.{ℕ, suc}
-use lib.IntN.{ℤ}
 use Rattle.primitive.specs.declared.flags.Named.{Named}
-use Rattle.primitive.specs.Values.{value}
-use Rattle.formula.specs.Trees.{constant}
-use Rattle.meaning.specs.State.{St, f0, f1, f2, f5, f17, raised, up}
-use Rattle.meaning.specs.Setters.{withCycle, setFl, setSto, setGone}
-use Rattle.meaning.specs.Links.{isNil, headOf, each, cut, rewind, purgeW, lastLink, disposeW, unwatchedW, unlinkN, budget, purge}
-use Rattle.meaning.specs.Reads.{Ans, evalBy, firstW, updComputed, check}
-use Rattle.meaning.specs.Engine.{logged, rerun, run}
+use Rattle.meaning.specs.State.{St, f0, f2, f17}
+use Rattle.meaning.specs.Setters.{setFl, setGone}
+use Rattle.meaning.specs.Links.{isNil, headOf, each, cut, rewind, purgeW, lastLink, disposeW, unwatchedW, unlinkN}
+use Rattle.meaning.specs.Reads.{check}
+use Rattle.meaning.specs.Engine.{rerun, run}
 use Rattle.meaning.proofs.Laws.{either, branch, up-same}
 use Rattle.meaning.proofs.Members.{isNil-true}
 
@@ -33,24 +30,6 @@ pub run-by : (P : St → Type 0) (s : St) (e : ℕ) → (s .fl e .dirty ≡ true
     → (s .fl e .pending ≡ true → check s e .yes ≡ false → P (setFl (check s e .st) e f2)) → (s .fl e .pending ≡ false → P (setFl s e f2)) → P (run s e)
 unfolding run
 run-by P s e a b c d = branch P (s .fl e .dirty) a (λ x. branch P (s .fl e .pending) (λ y. branch P (check s e .yes) (b y) (c y)) d)
-
--- ---- the cycle: raised before a re-evaluation, of a computed or an effect, and not at a first one; here of a formula that reads nothing
-module _ (s : St) (n : ℕ) (k : ℤ) (f : s .form n ≡ constant k) (d : s .done n ≡ []) (r : s .rest n ≡ []) where
-  nothing-purged : (x : St) → x .rest n ≡ up (s .rest) n (s .done n ++ s .rest n) n → purge x n .cycle ≡ x .cycle
-  unfolding each
-  nothing-purged x e = subst (λ (ls : List ℕ). each (unlinkN (budget x)) x ls .cycle ≡ x .cycle) (sym (e ∙ up-same (s .rest) n (s .done n ++ s .rest n) ∙ ap (λ (z : List ℕ). z ++ s .rest n) d ∙ r)) refl
-
-  pub cycle-raised : (fr : St → ℕ → Ans) → updComputed fr s n .st .cycle ≡ raised (s .cycle)
-  unfolding updComputed evalBy
-  cycle-raised fr = rw (f) (nothing-purged (setFl (setSto (setFl (rewind (withCycle s (raised (s .cycle))) n) n f5) n (value k)) n f1) refl)
-
-  pub cycle-raised-by-run : rerun s n .cycle ≡ raised (s .cycle)
-  unfolding rerun evalBy logged
-  cycle-raised-by-run = rw (f) (nothing-purged _ refl)
-
-  pub cycle-kept-at-first : (fr : St → ℕ → Ans) → firstW fr s n .cycle ≡ s .cycle
-  unfolding firstW evalBy
-  cycle-kept-at-first fr = rw (f) refl
 
 -- ---- unlink of the last subscriber link of a computed
 -- with dependencies it becomes 17, and they go

@@ -15,3 +15,4 @@ pub mod Played
 pub mod Reach
 pub mod Owners
 pub mod Moments
+pub mod Evaluations
