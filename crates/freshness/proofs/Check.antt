@@ -13,6 +13,7 @@ use Rattle.meaning.specs.Marks.{shallow}
 use Rattle.meaning.specs.Reads.{Ans, ans, settleW, steady, checkOn, checkW}
 use Rattle.meaning.specs.WellFormed.{In, clean, stale, dirty}
 use Rattle.freshness.specs.Evaluations.{inCheckOn, inCheck}
+pub use Rattle.meaning.proofs.Laws.{branches}
 use Rattle.meaning.proofs.Laws.{clash, false≢true, either, branch, in-left, in-right, in-cases}
 use Rattle.meaning.proofs.Members.{nil-none, isNil-true}
 use Rattle.meaning.proofs.Still.{Given}
@@ -29,11 +30,6 @@ use Rattle.freshness.proofs.Step.{Settles}
 -- everybody is exempt
 abbrev pub everybody : Set
 everybody n = Unit {0}
-
--- a property of two branches on one test
-pub branches {ℓ κ ι} : {A : Type ℓ} {B : Type κ} (P : A → B → Type ι) (b : Bool) {x y : A} {v w : B} → (b ≡ true → P x v) → (b ≡ false → P y w) → P (elim b [ true ↦ x | false ↦ y ]) (elim b [ true ↦ v | false ↦ w ])
-branches P true f g = f refl
-branches P false f g = g refl
 
 -- one link only
 single : (xs : List ℕ) (a b : ℕ) → several xs ≡ false → In a xs → In b xs → a ≡ b

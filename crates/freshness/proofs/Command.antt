@@ -21,8 +21,9 @@ use Rattle.meaning.specs.Refusals.{sightOf, asksOf, aSignal, anOwner, wrongNode
 use Rattle.meaning.specs.WellFormed.{Once, WellFormed}
 use Rattle.meaning.specs.Commands.{perform}
 use Rattle.freshness.specs.Afresh.{recorded}
-use Rattle.freshness.specs.Evaluations.{inStore, inEnd}
-use Rattle.freshness.specs.History.{Past, written, isWrite, closes, inPerform}
+use Rattle.meaning.specs.Evaluations.{countPerform}
+use Rattle.freshness.specs.Evaluations.{inStore, inEnd, inPerform}
+use Rattle.freshness.specs.History.{Past, written, isWrite, closes}
 use Rattle.meaning.proofs.Laws.{clash, false≢true, none-some, up-other, up-by}
 use Rattle.meaning.proofs.Rings.{dispose-ring, settle-ring, evaluate-ring}
 use Rattle.meaning.proofs.Still.{Given, given, Fixed, Still, link-still, drops-still, renews-still}
@@ -215,7 +216,7 @@ module _ (P : Past) (so : Sound P) (rows : ℕ) where
       (ap (λ (b : Bool). b && P .writes) (ne-eqb (s .depth) 1 (λ q. omega arith))) refl (λ a b y. so .clean a)
 
   pub stepped : (k : Command) → NoneHolds (table true (sightOf (P .st) rows) (some k)) → s .cycle + inPerform s k < limit → (g′ : Given) × Step P k g′ (perform s k .st) (perform s k .val) (inPerform s k)
-  unfolding table perform inPerform written wrongNode goneNode badFormula tooHigh noRoom wrongDepth asksOf names newSignal newComputed newScope newEffect recorded whos
+  unfolding table perform countPerform written wrongNode goneNode badFormula tooHigh noRoom wrongDepth asksOf names newSignal newComputed newScope newEffect recorded whos
   stepped (makeSignal x) h fits =
       let c = constant (pos 0) in
       let N = node s signal c none f1 (value x) in (

@@ -18,6 +18,7 @@ use Rattle.meaning.specs.Reads.{Out, evalBy, settleW, readW, fresh}
 use Rattle.meaning.specs.Engine.{logged, rerun}
 use Rattle.meaning.specs.WellFormed.{In, readLinks}
 use Rattle.freshness.specs.Afresh.{readings}
+use Rattle.meaning.specs.Evaluations.{countRerun}
 use Rattle.freshness.specs.Evaluations.{inFormula, inFresh, inRerun}
 use Rattle.meaning.proofs.Laws.{clash, false≢true, either, up-same, up-other, in-left}
 use Rattle.meaning.proofs.Members.{nil-none}
@@ -265,7 +266,7 @@ module _ (g : Given) (st : Static g) (p : ℕ → Value) (ρ : Records) (e : ℕ
 
   -- ---- a rerun: e is off the queue, and exempt
   pub rerun-fresh : (s : St) → Inside g (Run g st e) s → Lies g st s e → s .fl e .pending ≡ true → Inv g p ρ (Run g st e) (Run g st e) s → s .cycle + inRerun s e < limit → Reran g p ρ e (inRerun s e) s (rerun s e)
-  unfolding rerun inRerun
+  unfolding rerun countRerun
   rerun-fresh s i l pd v =
       let b = withCycle s (raised (s .cycle)) in
       let s₁ = setFl (rewind b e) e f6 in

@@ -14,6 +14,7 @@ use Rattle.meaning.specs.Setters.{withQueue}
 use Rattle.meaning.specs.Engine.{run, flushOn}
 use Rattle.meaning.specs.WellFormed.{In, Once, EffectFlags, watching, pushed, pending, dirty}
 use Rattle.freshness.specs.Afresh.{recorded}
+use Rattle.meaning.specs.Evaluations.{countFlushOn}
 use Rattle.freshness.specs.Evaluations.{inRun, inFlushOn}
 use Rattle.meaning.proofs.Laws.{clash, either}
 use Rattle.meaning.proofs.Members.{nil-none, reads-in, reads-sub}
@@ -226,7 +227,7 @@ module _ (g : Given) (st : Static g) (p : ℕ → Value) where
         later ws m ne (inr z) = z
 
   pub flush-fresh : (q : List ℕ) (s : St) (ρ : Records) → Inside g nobody s → s .queue ≡ q → Inv g p ρ nobody nobody s → s .cycle + inFlushOn s q < limit → Flushed g p ρ (inFlushOn s q) q s (flushOn s q)
-  unfolding flushOn inFlushOn whos recorded
+  unfolding flushOn countFlushOn whos recorded
   flush-fresh [] s ρ i is v fits = record {
     rows = [];
     logged = sym (append-nil (s .log));

@@ -16,7 +16,8 @@ use Rattle.meaning.specs.Refusals.{sightOf, table, unknown, refusal}
 use Rattle.meaning.specs.WellFormed.{In, Once}
 use Rattle.meaning.specs.Commands.{Answer, accepted, perform, performAny, answer, command}
 use Rattle.freshness.specs.Afresh.{recorded, Among}
-use Rattle.freshness.specs.History.{Call, meant, inPerformAny, inAnswer, inPerform, Past, written, isWrite, writesOn, next, now, after, begin, HasRow, NoTwo, FreshRows, Recorded, closes, Right, Demand3}
+use Rattle.freshness.specs.Evaluations.{inPerform}
+use Rattle.freshness.specs.History.{Call, meant, inPerformAny, inAnswer, Past, written, isWrite, writesOn, next, now, after, begin, HasRow, NoTwo, FreshRows, Recorded, closes, Right, Demand3}
 use Rattle.meaning.proofs.Laws.{false≢true, same-some}
 use Rattle.meaning.proofs.Still.{Given, given}
 use Rattle.meaning.proofs.Flush.{whos}

@@ -19,6 +19,7 @@ use Rattle.meaning.specs.Reads.{evalBy, readW, fresh}
 use Rattle.meaning.specs.Engine.{logged, node, owned, newEffect}
 use Rattle.meaning.specs.WellFormed.{In, readLinks, WellFormed}
 use Rattle.freshness.specs.Afresh.{readings}
+use Rattle.meaning.specs.Evaluations.{countNewEffect}
 use Rattle.freshness.specs.Evaluations.{inFormula, inFresh, inNewEffect}
 use Rattle.meaning.proofs.Laws.{clash, either, branch, up-same, up-other, up-by}
 use Rattle.meaning.proofs.Still.{Given, given}
@@ -194,7 +195,7 @@ owned-cycle s n (some q) = link-quiet s n q 0 .cycle
 -- ---- a new effect
 pub effect-fresh : (s : St) (w : WellFormed s) (ρ : Records) → Inv (given s) (s .pend) ρ nobody nobody s → (o : Option ℕ) (t : Tree) (fits : Fits s effect t o) → s .cycle + inNewEffect s o t < limit
     → Reran (given (node s effect t o f6 nothing)) (node s effect t o f6 nothing .pend) ρ (s .size) (inNewEffect s o t) (owned (node s effect t o f6 nothing) (s .size) o) (newEffect s o t)
-unfolding newEffect inNewEffect readLinks
+unfolding newEffect countNewEffect readLinks
 effect-fresh s w ρ inv o t fits =
     let n = s .size in
     let x = owned (node s effect t o f6 nothing) n o in

@@ -51,7 +51,7 @@ spends = record {
     flags = λ m. both s t x m (q .gone m) (p .flags m) (q .flags m);
   };
   stops = λ s. plain s _ refl refl refl refl refl refl (λ l a. a) (λ m a. a) (λ m. inl refl);
-  cuts = λ s l. plain s _ refl refl refl refl refl refl (λ k a. up-by (s .live) l false (λ (b : Bool). b ≡ true → s .live k ≡ true) k (λ q z. clash z refl) (λ q z. z) a) (λ m a. a) (λ m. inl refl);
+  cuts = λ s l v. plain s _ refl refl refl refl refl refl (λ k a. up-by (s .live) l false (λ (b : Bool). b ≡ true → s .live k ≡ true) k (λ q z. clash z refl) (λ q z. z) a) (λ m a. a) (λ m. inl refl);
   bares = λ s x. plain s _ refl refl refl refl refl refl (λ l a. a) (λ m a. up-by (s .gone) x true (λ (b : Bool). b ≡ true) m (λ q. refl) (λ q. a))
       (λ m. either-at s x m);
   stales = λ s d. plain s _ refl refl refl refl refl refl (λ l a. a) (λ m a. a)

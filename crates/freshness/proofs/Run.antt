@@ -15,6 +15,7 @@ use Rattle.meaning.specs.Reads.{Ans, fresh, check}
 use Rattle.meaning.specs.Engine.{rerun, run}
 use Rattle.meaning.specs.WellFormed.{In, readLinks, EffectFlags, watching, pushed, pending, dirty}
 use Rattle.freshness.specs.Afresh.{readings}
+use Rattle.meaning.specs.Evaluations.{countRun}
 use Rattle.freshness.specs.Evaluations.{inFresh, inCheck, inRerun, inRun}
 use Rattle.meaning.proofs.Laws.{clash, either, up-other}
 use Rattle.meaning.proofs.Rings.{check-ring}
@@ -260,7 +261,7 @@ module _ (g : Given) (st : Static g) (p : ℕ → Value) (ρ : Records) (e : ℕ
   many = inCheck (fresh (s .size)) (inFresh (s .size)) s′ e + (elim (check s′ e .yes) [ true ↦ inRerun (check s′ e .st) e | false ↦ 0 ])
 
   pub run-fresh : s .cycle + inRun s′ e < limit → RunFresh g p ρ e (inRun s′ e) s′ (run s′ e)
-  unfolding run inRun
+  unfolding run countRun
   run-fresh =
       let P : St → ℕ → Type 0 = λ x b. s .cycle + b < limit → RunFresh g p ρ e b s′ x in
       branches P (s .fl e .dirty) (λ d. at-dirty d)

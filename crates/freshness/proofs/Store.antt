@@ -16,6 +16,7 @@ use Rattle.meaning.specs.Marks.{propagate}
 use Rattle.meaning.specs.Engine.{flushOn, flushAt, store}
 use Rattle.meaning.specs.WellFormed.{In, Once, EffectFlags, watching, pushed, pending, dirty}
 use Rattle.freshness.specs.Afresh.{recorded, Differs}
+use Rattle.meaning.specs.Evaluations.{countStore}
 use Rattle.freshness.specs.Evaluations.{inFlushAt, inStore}
 use Rattle.meaning.proofs.Laws.{clash, either, up-other, up-by}
 use Rattle.meaning.proofs.Members.{nil-none, isNil-true}
@@ -115,7 +116,7 @@ module _ (g : Given) (st : Static g) (p : ℕ → Value) (ρ : Records) (s : St)
   }
 
   pub store-fresh : s .cycle + inStore s n v < limit → Written g p′ ρ (inStore s n v) s (store s n v)
-  unfolding store inStore resting
+  unfolding store countStore resting
   store-fresh =
       let P : St → ℕ → Type 0 = λ x k. s .cycle + k < limit → Written g p′ ρ k s x in
       branches P (same (s .pend n) v) (λ e fits. unchanged (same-yes (s .pend n) v e))

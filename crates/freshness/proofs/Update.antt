@@ -17,6 +17,7 @@ use Rattle.meaning.specs.Setters.{setFl, setSto, withCycle, withDone, withRest}
 use Rattle.meaning.specs.Links.{rewind, purge}
 use Rattle.meaning.specs.Reads.{Ans, ans, Out, evalBy, settleW, readW, firstW, updComputed}
 use Rattle.meaning.specs.WellFormed.{In, readLinks}
+use Rattle.meaning.specs.Evaluations.{countFirst}
 use Rattle.freshness.specs.Evaluations.{inFormula, inFirst, inUpdate}
 use Rattle.meaning.proofs.Laws.{clash, false≢true, either, up-same, up-other, up-by}
 use Rattle.meaning.proofs.Members.{nil-none}
@@ -253,7 +254,7 @@ module _ (g : Given) (st : Static g) (p : ℕ → Value) (ρ : Records) (k : ℕ
         (begun-moves (raised (s .cycle)) 1 (s₁ .done) (s₁ .rest) (omega arith) (omega arith)) refl lowers (omega arith) un))
 
     pub begins-fine : bare (s .fl n) ≡ true → s .fl n ≡ f0 → s .done n ≡ [] → s .rest n ≡ [] → s .subs n ≡ [] → s .cycle + inFirst fr c s n < end → Fine g p ρ X (inFirst fr c s n) s n (ans (firstW fr s n) false)
-    unfolding firstW inFirst readLinks
+    unfolding firstW countFirst readLinks
     begins-fine br fl e e′ none =
         let s₁ = setFl s n f5 in
         let i₁ : Inside g (also X n) s₁ = flags-inside g (also X n) s n (wide g st k fr frs X s n i o h ab le) (inr refl) f5 (λ q. refl) in

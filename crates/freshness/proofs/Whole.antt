@@ -14,6 +14,7 @@ use Rattle.meaning.specs.State.{St, Kind, signal, computed, effect, scope, read
 use Rattle.meaning.specs.Setters.{setFl}
 use Rattle.meaning.specs.Reads.{Ans, ans, firstW, checkW, updW, pendingW, freshW, fresh, settle}
 use Rattle.meaning.specs.WellFormed.{In, ComputedFlags, never, clean, stale, maybe, dirty}
+use Rattle.meaning.specs.Evaluations.{countFresh, countFreshW}
 use Rattle.freshness.specs.Evaluations.{inFirst, inUpdate, inCheck, inPending, inFreshW, inFresh, inRead}
 use Rattle.meaning.proofs.Laws.{clash, false≢true, either, or-last, up-same, up-other, up-by}
 use Rattle.meaning.proofs.Members.{append-is-nil}
@@ -265,7 +266,7 @@ module _ (g : Given) (st : Static g) (p : ℕ → Value) (ρ : Records) where
     signal-flags (inr e) = (ap bare e, ap (λ (z : Named). z .pending) e, λ q. clash (ap (λ (z : Named). z .dirty) e) q)
 
     one : s .cycle + inFreshW fr c s n < limit → Fine g p ρ X (inFreshW fr c s n) s n (freshW fr s n)
-    unfolding freshW inFreshW
+    unfolding freshW countFreshW
     one =
         let P : Ans → ℕ → Type 0 = λ x j. s .cycle + j < limit → Fine g p ρ X j s n x in
         branches P (bare (s .fl n)) (λ b. by-bare b (g .kind n) refl)
@@ -306,7 +307,7 @@ module _ (g : Given) (st : Static g) (p : ℕ → Value) (ρ : Records) where
 
   -- (c'), for every node and any bound above its number
   pub sound : (k : ℕ) → Sounds k
-  unfolding fresh inFresh
+  unfolding fresh countFresh
   sound zero X s n i o h r ab lt v fits = absurd (omega arith)
   sound (suc k) X s n i o h r ab lt v fits = one k (sound k) X s n i o h r ab (omega arith) v fits
 

@@ -15,7 +15,7 @@ use Rattle.meaning.specs.Setters.{withLog}
 use Rattle.meaning.specs.Words.{Command, makeSignal, makeComputed, makeEffect, makeScope, setTo, addTo, readOf, disposeOf, batchStart, batchEnd, commandOf, nodeOf, ownerOf, formulaOf}
 use Rattle.meaning.specs.Refusals.{sightOf, refusal}
 use Rattle.meaning.specs.Commands.{Answer, command}
-use Rattle.freshness.specs.Evaluations.{inRead, inStore, inNewEffect, inEnd}
+use Rattle.freshness.specs.Evaluations.{inPerform}
 use Rattle.freshness.specs.Afresh.{afreshOf, readings, recorded, Among, Differs}
 
 -- a command and the rows of its lent log
@@ -29,18 +29,6 @@ pub record Engine : Type 0 where
   pub evaluations : St → Call → ℕ
 
 -- ---- this engine
-unfoldable pub inPerform : St → Command → ℕ
-inPerform s (makeSignal v) = 0
-inPerform s (makeComputed cs) = 0
-inPerform s (makeEffect o cs) = inNewEffect s (ownerOf o) (formulaOf cs)
-inPerform s (makeScope o) = 0
-inPerform s (setTo n v) = inStore s (nodeOf n) (value v)
-inPerform s (addTo n d) = inStore s (nodeOf n) (sum (s .sto (nodeOf n)) (value d))
-inPerform s (readOf n) = inRead s (nodeOf n)
-inPerform s (disposeOf n) = 0
-inPerform s batchStart = 0
-inPerform s batchEnd = inEnd s (s .depth)
-
 unfoldable pub inPerformAny : St → Option Command → ℕ
 inPerformAny s none = 0
 inPerformAny s (some c) = inPerform s c

@@ -28,6 +28,11 @@ pub branch {ℓ κ} : {A : Type ℓ} (P : A → Type κ) (b : Bool) {x y : A} �
 branch P true f g = f refl
 branch P false f g = g refl
 
+-- and of two branches of one test
+pub branches {ℓ κ ι} : {A : Type ℓ} {B : Type κ} (P : A → B → Type ι) (b : Bool) {x y : A} {v w : B} → (b ≡ true → P x v) → (b ≡ false → P y w) → P (elim b [ true ↦ x | false ↦ y ]) (elim b [ true ↦ v | false ↦ w ])
+branches P true f g = f refl
+branches P false f g = g refl
+
 -- ---- or
 pub or-true : (b : Bool) → b || true ≡ true
 or-true true = refl

@@ -41,4 +41,6 @@ pub mod Marked
 pub mod Disposed
 pub mod Unwatched
 pub mod Throughout
+pub mod Stepped
+pub mod Cycle
 pub mod Promised

@@ -143,7 +143,7 @@ module _ (s : St) (w : WellFormed s) (k : Kind) (t : Tree) (o : Option ℕ) (b :
   reserve-at : (a c : Kind) (g h : Bool) (x y : Tree) (p q : Option ℕ) → a ≡ c → g ≡ h → x ≡ y → p ≡ q → reserveOf a g x p ≡ reserveOf c h y q
   reserve-at a c g h x y p q e f z r = cc
 
-  new-reserve : reserved G (N .gone) ≡ reserve s + reserveOf k false t o
+  pub new-reserve : reserved G (N .gone) ≡ reserve s + reserveOf k false t o
   unfolding reserve total
   new-reserve =
       ap₂ (λ (x y : ℕ). x + y)

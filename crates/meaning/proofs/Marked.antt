@@ -10,16 +10,12 @@ use Rattle.meaning.specs.Setters.{withStuck}
 use Rattle.meaning.specs.Links.{several}
 use Rattle.meaning.specs.Marks.{Marks, marks, marksOf, halt, notify, mark, stackFull, prop, turns, propagate}
 use Rattle.meaning.specs.Reach.{Reached, near, far}
+use Rattle.meaning.proofs.Laws.{branches}
 use Rattle.meaning.proofs.Still.{Given}
 use Rattle.meaning.proofs.Reached.{marks-reached}
 use Rattle.meaning.proofs.Inside.{nobody, Static, Inside}
 use Rattle.meaning.proofs.Marking.{stuck-inside}
 use Rattle.meaning.proofs.Walking.{propagate-inside}
-
--- a property of the same branch of two
-branch₂ {ℓ κ} : {A : Type ℓ} (P : A → A → Type κ) (b : Bool) {x y z w : A} → (b ≡ true → P x z) → (b ≡ false → P y w) → P (elim b [ true ↦ x | false ↦ y ]) (elim b [ true ↦ z | false ↦ w ])
-branch₂ P true f g = f refl
-branch₂ P false f g = g refl
 
 module _ (s : St) (c : Bool) where
   abbrev t : St
@@ -31,7 +27,7 @@ module _ (s : St) (c : Bool) where
 
   mark-alike : (m : Marks) (u : ℕ) (b : Bool) → Alike (mark s m u) (mark (withStuck s c) (marks (m .fl) (m .queue) b) u)
   unfolding mark notify
-  mark-alike m u b = branch₂ Alike (m .fl u .watching) (λ e. (_, refl)) (λ e. (b, refl))
+  mark-alike m u b = branches Alike (m .fl u .watching) (λ e. (_, refl)) (λ e. (b, refl))
 
   prop-alike : (k : ℕ) (m : Marks) (w : List ℕ) (st : List (List ℕ)) (b : Bool) → prop (withStuck s c) k (marks (m .fl) (m .queue) b) w st .fl ≡ prop s k m w st .fl
   unfolding prop
@@ -42,10 +38,10 @@ module _ (s : St) (c : Bool) where
       let u = s .sub l in
       let n = mark-alike m u b in
       let P : Marks → Marks → Type 0 = λ x y. x .fl ≡ y .fl in
-      branch₂ P (recursing (m .fl u)) (λ e. refl)
-      (λ e. branch₂ P (unclean (m .fl u)) (λ a. prop-alike k m w st b)
-      (λ a. branch₂ P (m .fl u .mutable)
-      (λ d. branch₂ P (several (s .subs u))
+      branches P (recursing (m .fl u)) (λ e. refl)
+      (λ e. branches P (unclean (m .fl u)) (λ a. prop-alike k m w st b)
+      (λ a. branches P (m .fl u .mutable)
+      (λ d. branches P (several (s .subs u))
       (λ f. subst (λ (z : Marks). prop (withStuck s c) k (halt z (stackFull s st)) (s .subs u) (w ∷ st) .fl ≡ prop s k (halt (mark s m u) (stackFull s st)) (s .subs u) (w ∷ st) .fl) (sym (n .1))
       (prop-alike k (halt (mark s m u) (stackFull s st)) (s .subs u) (w ∷ st) (n .0 || stackFull s st)))
       (λ f. subst (λ (z : Marks). prop (withStuck s c) k z (s .subs u ++ w) st .fl ≡ prop s k (mark s m u) (s .subs u ++ w) st .fl) (sym (n .1)) (prop-alike k (mark s m u) (s .subs u ++ w) st (n .0))))

@@ -5,7 +5,7 @@ use mathlib.Core.Logic.{_⊎_, inl, _↔_}
 use mathlib.Core.Bool.{true, false}
 use mathlib.Core.List.{List, [], _∷_}
 use mathlib.Core.Option.{some}
-use Prim.Native.Nat.{ℕ, suc, _+_, _≤_, _<_}
+use Prim.Native.Nat.{ℕ, suc, _+_, _≤_, _<_, _%_, _^_}
 use native.Mathlib.Omega.{arith}
 use lib.Dec.{leb, ltb}
 use lib.IntN.{ℤ, pos}
@@ -17,22 +17,22 @@ use Rattle.meaning.specs.Setters.{withQueue, withDepth, withLog, setFl, 
 use Rattle.meaning.specs.Links.{several, cut, unlink}
 use Rattle.meaning.specs.Marks.{Marks, marksOf, notify, prop, propagate}
 use Rattle.meaning.specs.Words.{Command, makeEffect, disposeOf, commandOf, ownerOf, formulaOf}
-use Rattle.meaning.specs.Reserve.{total, reserveOf, reserve}
+use Rattle.meaning.specs.Reserve.{total, reserveOf, reserve, liveLinks}
 use Rattle.meaning.specs.Refusals.{sightOf, asksOf}
 use Rattle.meaning.specs.WellFormed.{In, Once, WellFormed}
 use Rattle.meaning.specs.Reach.{Reached}
 use Rattle.meaning.specs.Owners.{Below}
-use Rattle.meaning.specs.Moments.{flushing}
+use Rattle.meaning.specs.Moments.{flushing, Steps, Moment, begun, reserveFrom}
+use Rattle.meaning.specs.Evaluations.{reevaluations}
 use Rattle.meaning.specs.Commands.{number, perform, Answer, command, runs}
 use Rattle.meaning.specs.Outcome.{firstRow, flushes, MayRun, made, flushed, MustGo, disposed, owned as had}
 use Rattle.meaning.proofs.Laws.{clash, either}
-use Rattle.meaning.proofs.Rings.{Runs}
 use Rattle.meaning.proofs.Still.{given}
 use Rattle.meaning.proofs.Flush.{whos}
 use Rattle.meaning.proofs.Performed.{performed, known, rows-are}
 use Rattle.meaning.proofs.Stuck.{stack-full, queue-full}
 use Rattle.meaning.proofs.Inside.{nobody, static, rest-inside}
-use Rattle.meaning.proofs.Room.{liveLinks, room-at-rest}
+use Rattle.meaning.proofs.Room.{room-at-rest}
 use Rattle.meaning.proofs.Frames.{others}
 use Rattle.meaning.proofs.Kept.{command-stays}
 use Rattle.meaning.proofs.Walking.{i-written, i-propagated, propagate-turns}
@@ -44,7 +44,9 @@ use Rattle.meaning.proofs.Moments.{flushing-queue, drop-once, gone-pass
 use Rattle.meaning.proofs.Marked.{marks-exactly}
 use Rattle.meaning.proofs.Disposed.{gone-below, below-stays, disposed as disposal, givenBack, reserve-back}
 use Rattle.meaning.proofs.Unwatched.{becomes-17, stays}
-use Rattle.meaning.proofs.Throughout.{InRoom, in-room}
+use Rattle.meaning.proofs.Throughout.{few-live, moment-within}
+use Rattle.meaning.proofs.Stepped.{perform-steps, begun-within}
+use Rattle.meaning.proofs.Cycle.{perform-counts}
 
 -- n is gone, and has no links
 abbrev pub Bare : St → ℕ → Type 0
@@ -146,9 +148,26 @@ module _ (s : St) (rows : ℕ) (ws : List ℤ) (w : WellFormed s) (ok : command 
   pub new-lives : (n : ℕ) → s .size ≤ n → n < t .size → t .gone n ≡ false
   new-lives = let k = known s rows ws ok in command-told s rows w ws (k .0) (k .1) ok .lives
 
-  -- live links are at most the reserve, and that at most the slots: before and after the command (inside it: `room-throughout`, `room-during`, `made-in-room`)
+  -- live links are at most the reserve, and that at most the slots: before and after the command (inside it: `room-at-every-moment`, `room-during`, `made-in-room`)
   pub room-kept : (liveLinks s ≤ reserve s) × (reserve s ≤ s .room .slots) × (liveLinks t ≤ reserve t) × (reserve t ≤ t .room .slots)
   room-kept = let x = room-at-rest s w in let y = room-at-rest t formed in (x .0, x .1, y .0, y .1)
+
+  -- ---- every moment of it
+  module _ (c : Command) (is : commandOf ws ≡ some c) where
+    -- it is made of steps: from the empty log, with the node that it makes, to its end
+    pub made-of-steps : Steps (begun (withLog s []) c) t
+    made-of-steps = subst (λ (x : Answer). Steps (begun (withLog s []) c) (x .st)) (sym (performed s rows ws c is ok .0)) (perform-steps (withLog s []) c)
+
+    -- room at every moment: live links are at most the reserve at entry, with the node that the command makes, and that is at most the slots
+    pub room-at-every-moment : s .stuck ≡ false → (x : St) → Moment (begun (withLog s []) c) t x → (liveLinks x ≤ reserveFrom s c) × (reserveFrom s c ≤ s .room .slots)
+    room-at-every-moment e x m =
+        let b = begun-within s rows w c (performed s rows ws c is ok .1) in
+        let n = moment-within _ t x m (command-kept true s rows ws w .stuck ∙ e) (reserveFrom s c) (b .0) in
+        (few-live (reserveFrom s c) x n, b .1)
+
+    -- ---- the cycle: raised once for each evaluation of the command that is not a first one; it wraps
+    pub cycle-counts : s .cycle < 2 ^ 64 → t .cycle ≡ (s .cycle + reevaluations (withLog s []) c) % 2 ^ 64
+    cycle-counts h = ap (λ (x : Answer). x .st .cycle) (performed s rows ws c is ok .0) ∙ perform-counts (withLog s []) c h
 
 -- ---- inside a command
 module _ (s : St) (w : WellFormed s) where
@@ -190,10 +209,6 @@ gone-passed-at-write s w n v h kn k e q j g =
     gone-passed (given s) (static s w) k (p .queue) p (i-propagated (given s) (static s w) s n v (rest-inside s w) h kn .inside) refl e q j g
 
 -- ---- what "not stuck" says
--- room at every moment: each step of a disposal, a read or a run that is not stuck keeps the slots in use, and the reserve, under any bound that both had before it
-pub room-throughout : Runs InRoom
-room-throughout = in-room
-
 -- an accepted command is not stuck: so no ring and no walk ends before its work, no slot is missing and no reserve spent, and no queue or stack is full (the first half of `Stuck` says where an operation is stuck, the second that it stays so)
 pub nothing-stuck : (s : St) (rows : ℕ) (ws : List ℤ) → WellFormed s → s .stuck ≡ false → command true s rows ws .st .stuck ≡ false
 nothing-stuck s rows ws w e = command-kept true s rows ws w .stuck ∙ e

@@ -13,13 +13,13 @@ use Rattle.formula.specs.Trees.{Tree, constant, read, two, choose, names}
 use Rattle.meaning.specs.State.{St, readable, rank, f1, up}
 use Rattle.meaning.specs.Links.{headOf, lastOf, goesTo, isFrom, renew, spent, insert, link}
 use Rattle.meaning.specs.Reads.{Ans, Out, evalBy, settleW, readW}
-use Rattle.meaning.specs.Reserve.{reserveOf}
+use Rattle.meaning.specs.Reserve.{reserveOf, liveLinks}
 use Rattle.meaning.specs.WellFormed.{In, readLinks}
 use Rattle.meaning.proofs.Laws.{clash, false≢true, either, branch, or-false, up-same, up-other, in-left, in-right, in-cases}
 use Rattle.meaning.proofs.Members.{nil-none, reads-few, reads-append, reads-agree}
 use Rattle.meaning.proofs.Still.{Given}
 use Rattle.meaning.proofs.Inside.{Set, also, Static, Goes, Inside, reserved, widen, let-out}
-use Rattle.meaning.proofs.Room.{ownerLinks, paid, spends, liveLinks, Paid, rests-paid, live-reserved, slot-left}
+use Rattle.meaning.proofs.Room.{ownerLinks, paid, spends, Paid, rests-paid, live-reserved, slot-left}
 use Rattle.meaning.proofs.Linking.{renew-inside, insert-inside, other}
 use Rattle.meaning.proofs.Frames.{Low, Frame, frame-flags, frame-then, frame-wider, paid-frame, Open, rests-clean}
 use Rattle.meaning.proofs.Soiling.{shallow-inside, shallow-clean, shallow-frame}

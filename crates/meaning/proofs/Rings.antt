@@ -1,9 +1,11 @@
 -- A relation between the state before and after that holds of an operation's own steps, and from step to step, holds of the operation.
 -- The first ring (unlink, unwatched, dispose, purge), the second (read, check, update, evaluation), runs and the flush. Assumes nothing.
-use mathlib.Core.Bool.{true, false, not, _&&_}
+use mathlib.Core.Path.{_≡_, refl, subst}
+use mathlib.Core.Bool.{Bool, true, false, not, _&&_}
 use mathlib.Core.List.{List, [], _∷_}
 use mathlib.Core.Option.{Option, none, some}
-use Prim.Native.Nat.{ℕ, zero, suc}
+use Prim.Native.Nat.{ℕ, zero, suc, _+_}
+use native.Mathlib.Omega.{arith}
 use Rattle.primitive.specs.declared.flags.Named.{Named}
 use Rattle.primitive.specs.declared.values.Value.{Value}
 use Rattle.primitive.specs.Values.{isZero}
@@ -12,17 +14,17 @@ use Rattle.meaning.specs.State.{St, Kind, signal, computed, effect, scop
 use Rattle.meaning.specs.Setters.{withCycle, withLog, withQueue, setFl, setSto, setGone}
 use Rattle.meaning.specs.Links.{stop, isNil, headOf, several, each, link, cut, rewind, purgeW, lastLink, disposeW, unwatchedW, unlinkN, budget, purge, dispose}
 use Rattle.meaning.specs.Marks.{shallow}
-use Rattle.meaning.specs.Reads.{Ans, Out, evalBy, settleW, readW, firstW, updComputed, updSignal, updW, sameSlots, steady, checkOn, checkW, pendingW, freshW, fresh, settle, check, evaluate}
+use Rattle.meaning.specs.Reads.{Ans, Out, ans, evalBy, settleW, readW, firstW, updComputed, updSignal, updW, sameSlots, steady, checkOn, checkW, pendingW, freshW, fresh, settle, check, evaluate}
 use Rattle.meaning.specs.Engine.{logged, rerun, run, flushOn}
-use Rattle.meaning.proofs.Laws.{branch}
-use Rattle.meaning.proofs.Steps.{run-by}
+use Rattle.meaning.specs.Evaluations.{inFormula, inCheckOn, inCheck, inUpdate, inPending, withFirst, countFirst, countFreshW, countFresh, countRead, countEvaluation, countRerun, countRun, countFlushOn}
+use Rattle.meaning.proofs.Laws.{branch, branches}
 
 -- ---- the first ring
 pub record Drops (R : St → St → Type 0) : Type 0 where
   pub same : (s : St) → R s s
   pub then : (s t x : St) → R s t → R t x → R s x
   pub stops : (s : St) → R s (stop s)
-  pub cuts : (s : St) (l : ℕ) → R s (cut s l)
+  pub cuts : (s : St) (l : ℕ) → s .live l ≡ true → R s (cut s l)
   pub bares : (s : St) (x : ℕ) → R s (setGone (setFl (rewind s x) x f0) x true)
   pub stales : (s : St) (d : ℕ) → R s (setFl (rewind s d) d f17)
 
@@ -57,8 +59,8 @@ module _ (R : St → St → Type 0) (r : Drops R) where
   unlink-ring (suc k) s l =
       branch (R s) (s .live l)
       (λ v. branch (R s) (isNil (cut s l .subs (s .dep l)))
-      (λ e. r .then s (cut s l) _ (r .cuts s l) (unwatched-ring (unlinkN k) (unlink-ring k) (cut s l) (s .dep l)))
-      (λ e. r .cuts s l))
+      (λ e. r .then s (cut s l) _ (r .cuts s l v) (unwatched-ring (unlinkN k) (unlink-ring k) (cut s l) (s .dep l)))
+      (λ e. r .cuts s l v))
       (λ v. r .stops s)
 
   pub purge-ring : (s : St) (u : ℕ) → R s (purge s u)
@@ -77,107 +79,198 @@ pub record Renews (R : St → St → Type 0) : Type 0 where
   pub links : (s : St) (n u v : ℕ) → R s (link s n u v)
   pub shallows : (s : St) (n : ℕ) → R s (shallow s n)
 
-module _ (R : St → St → Type 0) (r : Renews R) where
-  abbrev same : (s : St) → R s s
-  same = r .drops .same
+-- the same with a number: 1 where an evaluation begins that counts, 0 at any other step; `all`: first ones count too
+pub record Counts (all : Bool) (R : ℕ → St → St → Type 0) : Type 0 where
+  pub drops : Drops (R 0)
+  pub then : (a b : ℕ) (s t x : St) → R a s t → R b t x → R (a + b) s x
+  pub firsts : (s : St) (n : ℕ) → R (withFirst all 0) s (setFl s n f5)
+  pub begins : (s : St) (n : ℕ) (f : Named) → R 1 s (setFl (rewind (withCycle s (raised (s .cycle))) n) n f)
+  pub flags : (s : St) (n : ℕ) (f : Named) → R 0 s (setFl s n f)
+  pub stores : (s : St) (n : ℕ) (v : Value) (f : Named) → R 0 s (setFl (setSto s n v) n f)
+  pub moves : (s : St) (n : ℕ) → R 0 s (setSto (setFl s n f1) n (s .pend n))
+  pub links : (s : St) (n u v : ℕ) → R 0 s (link s n u v)
+  pub shallows : (s : St) (n : ℕ) → R 0 s (shallow s n)
 
-  abbrev then : (s t x : St) → R s t → R t x → R s x
-  then = r .drops .then
+one-first : (all : Bool) (m : ℕ) → withFirst all 0 + m ≡ withFirst all m
+one-first true m = omega arith
+one-first false m = omega arith
 
-  eval-ring : (rd : St → ℕ → St) → ((s : St) (n : ℕ) → R s (rd s n)) → (f : Tree) (s : St) → R s (evalBy rd f s .st)
-  unfolding evalBy
-  eval-ring rd h (constant k) s = same s
-  eval-ring rd h (read n) s = h s n
-  eval-ring rd h (two o a b) s = let t = evalBy rd a s .st in then s t _ (eval-ring rd h a s) (eval-ring rd h b t)
-  eval-ring rd h (choose c a b) s =
+module _ (all : Bool) (R : ℕ → St → St → Type 0) (r : Counts all R) where
+  equal : (a b : ℕ) (s t : St) → a ≡ b → R a s t → R b s t
+  equal a b s t e p = subst (λ (m : ℕ). R m s t) e p
+
+  after : (m : ℕ) (s t x : St) → R m s t → R 0 t x → R m s x
+  after m s t x p q = equal (m + 0) m s x (omega arith) (r .then m 0 s t x p q)
+
+  eval-count : (rd : St → ℕ → St) (k : St → ℕ → ℕ) → ((s : St) (n : ℕ) → R (k s n) s (rd s n)) → (f : Tree) (s : St) → R (inFormula rd k f s) s (evalBy rd f s .st)
+  unfolding evalBy inFormula
+  eval-count rd k h (constant c) s = r .drops .same s
+  eval-count rd k h (read n) s = h s n
+  eval-count rd k h (two o a b) s = let t = evalBy rd a s .st in r .then (inFormula rd k a s) (inFormula rd k b t) s t _ (eval-count rd k h a s) (eval-count rd k h b t)
+  eval-count rd k h (choose c a b) s =
       let x = evalBy rd c s in
-      then s (x .st) (evalBy rd (choose c a b) s .st) (eval-ring rd h c s)
-      (branch (λ (y : Out). R (x .st) (y .st)) (isZero (x .val)) (λ e. eval-ring rd h b (x .st)) (λ e. eval-ring rd h a (x .st)))
+      r .then (inFormula rd k c s) _ s (x .st) (evalBy rd (choose c a b) s .st) (eval-count rd k h c s)
+      (branches (λ (y : Out) (m : ℕ). R m (x .st) (y .st)) (isZero (x .val)) (λ e. eval-count rd k h b (x .st)) (λ e. eval-count rd k h a (x .st)))
 
-  module _ (fr : St → ℕ → Ans) (frs : (s : St) (n : ℕ) → R s (fr s n .st)) where
-    settleW-ring : (s : St) (n : ℕ) → R s (settleW fr s n)
+  module _ (fr : St → ℕ → Ans) (c : St → ℕ → ℕ) (frs : (s : St) (n : ℕ) → R (c s n) s (fr s n .st)) where
+    settleW-count : (s : St) (n : ℕ) → R (c s n) s (settleW fr s n)
     unfolding settleW
-    settleW-ring s n =
+    settleW-count s n =
         let a = fr s n in
-        branch (R s) (a .yes) (λ e. then s (a .st) _ (frs s n) (r .shallows (a .st) n)) (λ e. frs s n)
+        branch (R (c s n) s) (a .yes) (λ e. after (c s n) s (a .st) _ (frs s n) (r .shallows (a .st) n)) (λ e. frs s n)
 
-    read-ring : (u : ℕ) (s : St) (n : ℕ) → R s (readW fr u s n)
-    read-ring u s n = let t = settleW fr s n in then s t _ (settleW-ring s n) (r .links t n u (t .cycle))
+    read-count : (u : ℕ) (s : St) (n : ℕ) → R (c s n) s (readW fr u s n)
+    read-count u s n = let t = settleW fr s n in after (c s n) s t _ (settleW-count s n) (r .links t n u (t .cycle))
 
-    first-ring : (s : St) (n : ℕ) → R s (firstW fr s n)
-    unfolding firstW
-    first-ring s n =
+    evalW-count : (u : ℕ) (f : Tree) (s : St) → R (inFormula (readW fr u) c f s) s (evalBy (readW fr u) f s .st)
+    evalW-count u = eval-count (readW fr u) c (read-count u)
+
+    pub first-count : (s : St) (n : ℕ) → R (countFirst all fr c s n) s (firstW fr s n)
+    unfolding firstW countFirst
+    first-count s n =
         let t = setFl s n f5 in
         let o = evalBy (readW fr n) (s .form n) t in
-        then s (o .st) _ (then s t (o .st) (r .flags s n f5) (eval-ring (readW fr n) (read-ring n) (s .form n) t)) (r .stores (o .st) n (o .val) f1)
+        let m = inFormula (readW fr n) c (s .form n) t in
+        after (withFirst all m) s (o .st) _ (equal (withFirst all 0 + m) (withFirst all m) s (o .st) (one-first all m) (r .then (withFirst all 0) m s t (o .st) (r .firsts s n) (evalW-count n (s .form n) t)))
+        (r .stores (o .st) n (o .val) f1)
 
-    computed-ring : (s : St) (n : ℕ) → R s (updComputed fr s n .st)
-    unfolding updComputed
-    computed-ring s n =
+    pub computed-count : (s : St) (n : ℕ) → R (inUpdate fr c computed s n) s (updComputed fr s n .st)
+    unfolding updComputed inUpdate
+    computed-count s n =
         let t = setFl (rewind (withCycle s (raised (s .cycle))) n) n f5 in
         let o = evalBy (readW fr n) (s .form n) t in
+        let m = inFormula (readW fr n) c (s .form n) t in
         let y = setFl (setSto (o .st) n (o .val)) n f1 in
-        then s y _ (then s (o .st) y (then s t (o .st) (r .begins s n f5) (eval-ring (readW fr n) (read-ring n) (s .form n) t)) (r .stores (o .st) n (o .val) f1))
-        (purge-ring R (r .drops) y n)
+        after (suc m) s y _ (after (suc m) s (o .st) y (equal (1 + m) (suc m) s (o .st) (omega arith) (r .then 1 m s t (o .st) (r .begins s n f5) (evalW-count n (s .form n) t))) (r .stores (o .st) n (o .val) f1))
+        (purge-ring (R 0) (r .drops) y n)
 
-    upd-ring : (k : Kind) (s : St) (n : ℕ) → R s (updW fr k s n .st)
-    unfolding updW updSignal
-    upd-ring signal s n = r .moves s n
-    upd-ring computed s n = computed-ring s n
-    upd-ring effect s n = r .drops .stops s
-    upd-ring scope s n = r .drops .stops s
+    upd-count : (k : Kind) (s : St) (n : ℕ) → R (inUpdate fr c k s n) s (updW fr k s n .st)
+    unfolding updW updSignal inUpdate
+    upd-count signal s n = r .moves s n
+    upd-count computed s n = computed-count s n
+    upd-count effect s n = r .drops .stops s
+    upd-count scope s n = r .drops .stops s
 
-    steady-ring : (was : List ℕ) (s t : St) (d : ℕ) → R s t → R s (steady was t d)
+    steady-count : (m : ℕ) (was : List ℕ) (s t : St) (d : ℕ) → R m s t → R m s (steady was t d)
     unfolding steady
-    steady-ring was s t d p = branch (R s) (sameSlots was (t .subs d) && not (isNil was)) (λ e. p) (λ e. then s t _ p (r .drops .stops t))
+    steady-count m was s t d p = branch (R m s) (sameSlots was (t .subs d) && not (isNil was)) (λ e. p) (λ e. after m s t _ p (r .drops .stops t))
 
-    checkOn-ring : (u : ℕ) (ls : List ℕ) (s : St) → R s (checkOn fr u s ls .st)
-    unfolding checkOn
-    checkOn-ring u [] s = same s
-    checkOn-ring u (l ∷ ls) s =
+    checkOn-count : (u : ℕ) (ls : List ℕ) (s : St) → R (inCheckOn fr c u s ls) s (checkOn fr u s ls .st)
+    unfolding checkOn inCheckOn
+    checkOn-count u [] s = r .drops .same s
+    checkOn-count u (l ∷ ls) s =
         let d = s .dep l in
         let a = fr s d in
         let t = steady (s .subs d) (a .st) d in
-        let p : R s t = steady-ring (s .subs d) s (a .st) d (frs s d) in
-        branch (λ (x : Ans). R s (x .st)) (s .fl u .dirty) (λ e. same s)
-        (λ e. branch (λ (x : Ans). R s (x .st)) (s .fl d .mutable)
-        (λ f. branch (λ (x : Ans). R s (x .st)) (a .yes)
-        (λ g. branch (λ (x : St). R s x) (several (t .subs d)) (λ h. then s t _ p (r .shallows t d)) (λ h. p))
-        (λ g. then s t _ p (checkOn-ring u ls t)))
-        (λ f. checkOn-ring u ls s))
+        let p : R (c s d) s t = steady-count (c s d) (s .subs d) s (a .st) d (frs s d) in
+        branches (λ (x : Ans) (m : ℕ). R m s (x .st)) (s .fl u .dirty) (λ e. r .drops .same s)
+        (λ e. branches (λ (x : Ans) (m : ℕ). R m s (x .st)) (s .fl d .mutable)
+        (λ f. branches (λ (x : Ans) (m : ℕ). R (c s d + m) s (x .st)) (a .yes)
+        (λ g. branch (λ (x : St). R (c s d + 0) s x) (several (t .subs d)) (λ h. r .then (c s d) 0 s t _ p (r .shallows t d)) (λ h. r .then (c s d) 0 s t t p (r .drops .same t)))
+        (λ g. r .then (c s d) (inCheckOn fr c u t ls) s t _ p (checkOn-count u ls t)))
+        (λ f. checkOn-count u ls s))
 
-    checkW-ring : (s : St) (u : ℕ) → R s (checkW fr s u .st)
-    unfolding checkW
-    checkW-ring s u = branch (λ (x : Ans). R s (x .st)) (isNil (deps s u)) (λ e. r .drops .stops s) (λ e. checkOn-ring u (deps s u) s)
+    checkW-count : (s : St) (u : ℕ) → R (inCheck fr c s u) s (checkW fr s u .st)
+    unfolding checkW inCheck inCheckOn
+    checkW-count s u = go (deps s u) refl
+      where
+        go : (ls : List ℕ) → deps s u ≡ ls → R (inCheckOn fr c u s ls) s (elim (isNil ls) as (λ (b : Bool). Ans) [ true ↦ ans (stop s) false | false ↦ checkOn fr u s ls ] .st)
+        go [] e = r .drops .stops s
+        go (l ∷ ls) e = checkOn-count u (l ∷ ls) s
 
-    pending-ring : (s : St) (n : ℕ) → R s (pendingW fr s n .st)
-    unfolding pendingW
-    pending-ring s n =
-        let c = checkW fr s n in
-        let p : R s (c .st) = checkW-ring s n in
-        branch (λ (x : Ans). R s (x .st)) (c .yes) (λ e. then s (c .st) _ p (upd-ring (s .kind n) (c .st) n))
-        (λ e. then s (c .st) _ p (r .flags (c .st) n (withPending (c .st .fl n) false)))
+    pending-count : (s : St) (n : ℕ) → R (inPending fr c s n) s (pendingW fr s n .st)
+    unfolding pendingW inPending
+    pending-count s n =
+        let a = checkW fr s n in
+        let m = inCheck fr c s n in
+        let p : R m s (a .st) = checkW-count s n in
+        branches (λ (x : Ans) (j : ℕ). R (m + j) s (x .st)) (a .yes) (λ e. r .then m _ s (a .st) _ p (upd-count (s .kind n) (a .st) n))
+        (λ e. r .then m 0 s (a .st) _ p (r .flags (a .st) n (withPending (a .st .fl n) false)))
 
-    whole-ring : (s : St) (n : ℕ) → R s (freshW fr s n .st)
-    unfolding freshW
-    whole-ring s n =
-        branch (λ (x : Ans). R s (x .st)) (bare (s .fl n)) (λ e. first-ring s n)
-        (λ e. branch (λ (x : Ans). R s (x .st)) (s .fl n .dirty) (λ f. upd-ring (s .kind n) s n)
-        (λ f. branch (λ (x : Ans). R s (x .st)) (s .fl n .pending) (λ g. pending-ring s n) (λ g. same s)))
+    whole-count : (s : St) (n : ℕ) → R (countFreshW all fr c s n) s (freshW fr s n .st)
+    unfolding freshW countFreshW
+    whole-count s n =
+        branches (λ (x : Ans) (m : ℕ). R m s (x .st)) (bare (s .fl n)) (λ e. first-count s n)
+        (λ e. branches (λ (x : Ans) (m : ℕ). R m s (x .st)) (s .fl n .dirty) (λ f. upd-count (s .kind n) s n)
+        (λ f. branches (λ (x : Ans) (m : ℕ). R m s (x .st)) (s .fl n .pending) (λ g. pending-count s n) (λ g. r .drops .same s)))
+
+  pub fresh-count : (k : ℕ) (s : St) (n : ℕ) → R (countFresh all k s n) s (fresh k s n .st)
+  unfolding fresh countFresh
+  fresh-count zero s n = r .drops .stops s
+  fresh-count (suc k) s n = whole-count (fresh k) (countFresh all k) (fresh-count k) s n
+
+  pub settle-count : (s : St) (n : ℕ) → R (countRead all s n) s (settle s n)
+  settle-count s n = settleW-count (fresh (s .size)) (countFresh all (s .size)) (fresh-count (s .size)) s n
+
+  pub check-count : (s : St) (u : ℕ) → R (inCheck (fresh (s .size)) (countFresh all (s .size)) s u) s (check s u .st)
+  check-count s u = checkW-count (fresh (s .size)) (countFresh all (s .size)) (fresh-count (s .size)) s u
+
+  pub evaluate-count : (s : St) (u : ℕ) → R (countEvaluation all s u) s (evaluate s u .st)
+  evaluate-count s u = evalW-count (fresh (s .size)) (countFresh all (s .size)) (fresh-count (s .size)) u (s .form u) s
+
+  -- ---- runs
+  module _ (logs : (s : St) (l : List Row) → R 0 s (withLog s l)) where
+    pub logged-count : (o : Out) (e : ℕ) → R 0 (o .st) (logged o e)
+    unfolding logged
+    logged-count o e = logs (o .st) _
+
+    pub rerun-count : (s : St) (e : ℕ) → R (countRerun all s e) s (rerun s e)
+    unfolding rerun countRerun
+    rerun-count s e =
+        let t = setFl (rewind (withCycle s (raised (s .cycle))) e) e f6 in
+        let o = evaluate t e in
+        let m = countEvaluation all t e in
+        let l = logged o e in
+        let y = setFl l e f2 in
+        after (suc m) s y _ (after (suc m) s l y (after (suc m) s (o .st) l (equal (1 + m) (suc m) s (o .st) (omega arith) (r .then 1 m s t (o .st) (r .begins s e f6) (evaluate-count t e))) (logged-count o e)) (r .flags l e f2))
+        (purge-ring (R 0) (r .drops) y e)
+
+    pub run-count : (s : St) (e : ℕ) → R (countRun all s e) s (run s e)
+    unfolding run countRun
+    run-count s e =
+        let c = check s e in
+        let m = inCheck (fresh (s .size)) (countFresh all (s .size)) s e in
+        let p : R m s (c .st) = check-count s e in
+        branches (λ (x : St) (j : ℕ). R j s x) (s .fl e .dirty) (λ a. rerun-count s e)
+        (λ a. branches (λ (x : St) (j : ℕ). R j s x) (s .fl e .pending)
+        (λ b. branches (λ (x : St) (j : ℕ). R (m + j) s x) (c .yes) (λ g. r .then m _ s (c .st) _ p (rerun-count (c .st) e)) (λ g. r .then m 0 s (c .st) _ p (r .flags (c .st) e f2)))
+        (λ b. r .flags s e f2))
+
+    -- the flush takes effects off the queue besides
+    pub flush-count : ((s : St) (q : List ℕ) → R 0 s (withQueue s q)) → (q : List ℕ) (s : St) → R (countFlushOn all s q) s (flushOn s q)
+    unfolding flushOn countFlushOn
+    flush-count h [] s = r .drops .same s
+    flush-count h (e ∷ q) s =
+        let t = withQueue s q in
+        let m = countRun all t e in
+        r .then m _ s (run t e) _ (equal (0 + m) m s (run t e) (omega arith) (r .then 0 m s t (run t e) (h s q) (run-count t e))) (flush-count h q (run t e))
+
+-- ---- without numbers
+module _ (R : St → St → Type 0) (r : Renews R) where
+  uncounted : Counts true (λ (m : ℕ). R)
+  uncounted = record {
+    drops = r .drops;
+    then = λ a b. r .drops .then;
+    firsts = λ s n. r .flags s n f5;
+    begins = r .begins;
+    flags = r .flags;
+    stores = r .stores;
+    moves = r .moves;
+    links = r .links;
+    shallows = r .shallows;
+  }
 
   pub fresh-ring : (k : ℕ) (s : St) (n : ℕ) → R s (fresh k s n .st)
-  unfolding fresh
-  fresh-ring zero s n = r .drops .stops s
-  fresh-ring (suc k) s n = whole-ring (fresh k) (fresh-ring k) s n
+  fresh-ring = fresh-count true (λ (m : ℕ). R) uncounted
 
   pub settle-ring : (s : St) (n : ℕ) → R s (settle s n)
-  settle-ring s n = settleW-ring (fresh (s .size)) (fresh-ring (s .size)) s n
+  settle-ring = settle-count true (λ (m : ℕ). R) uncounted
 
   pub check-ring : (s : St) (u : ℕ) → R s (check s u .st)
-  check-ring s u = checkW-ring (fresh (s .size)) (fresh-ring (s .size)) s u
+  check-ring = check-count true (λ (m : ℕ). R) uncounted
 
   pub evaluate-ring : (s : St) (u : ℕ) → R s (evaluate s u .st)
-  evaluate-ring s u = eval-ring (readW (fresh (s .size)) u) (read-ring (fresh (s .size)) (fresh-ring (s .size)) u) (s .form u) s
+  evaluate-ring = evaluate-count true (λ (m : ℕ). R) uncounted
 
 -- ---- a weaker relation
 module _ (R S : St → St → Type 0) (weaker : (s t : St) → R s t → S s t) (all : (s t x : St) → S s t → S t x → S s x) where
@@ -186,7 +279,7 @@ module _ (R S : St → St → Type 0) (weaker : (s t : St) → R s t → S s t) 
     same = λ s. weaker s s (r .same s);
     then = all;
     stops = λ s. weaker s _ (r .stops s);
-    cuts = λ s l. weaker s _ (r .cuts s l);
+    cuts = λ s l v. weaker s _ (r .cuts s l v);
     bares = λ s x. weaker s _ (r .bares s x);
     stales = λ s d. weaker s _ (r .stales s d);
   }
@@ -208,32 +301,11 @@ pub record Runs (R : St → St → Type 0) : Type 0 where
   pub logs : (s : St) (l : List Row) → R s (withLog s l)
 
 module _ (R : St → St → Type 0) (r : Runs R) where
-  abbrev on : (s t x : St) → R s t → R t x → R s x
-  on = r .renews .drops .then
-
   pub logged-ring : (o : Out) (e : ℕ) → R (o .st) (logged o e)
-  unfolding logged
-  logged-ring o e = r .logs (o .st) _
-
-  rerun-ring : (s : St) (e : ℕ) → R s (rerun s e)
-  unfolding rerun
-  rerun-ring s e =
-      let t = setFl (rewind (withCycle s (raised (s .cycle))) e) e f6 in
-      let o = evaluate t e in
-      let y = setFl (logged o e) e f2 in
-      on s y _ (on s (logged o e) y (on s (o .st) _ (on s t (o .st) (r .renews .begins s e f6) (evaluate-ring R (r .renews) t e)) (logged-ring o e)) (r .renews .flags (logged o e) e f2))
-      (purge-ring R (r .renews .drops) y e)
+  logged-ring = logged-count true (λ (m : ℕ). R) (uncounted R (r .renews)) (r .logs)
 
   pub run-ring : (s : St) (e : ℕ) → R s (run s e)
-  run-ring s e =
-      let c = check s e in
-      let p : R s (c .st) = check-ring R (r .renews) s e in
-      run-by (R s) s e (λ a. rerun-ring s e) (λ b g. on s (c .st) _ p (rerun-ring (c .st) e)) (λ b g. on s (c .st) _ p (r .renews .flags (c .st) e f2)) (λ b. r .renews .flags s e f2)
+  run-ring = run-count true (λ (m : ℕ). R) (uncounted R (r .renews)) (r .logs)
 
-  -- the flush takes effects off the queue besides
   pub flush-ring : ((s : St) (q : List ℕ) → R s (withQueue s q)) → (q : List ℕ) (s : St) → R s (flushOn s q)
-  unfolding flushOn
-  flush-ring h [] s = r .renews .drops .same s
-  flush-ring h (e ∷ q) s =
-      let t = withQueue s q in
-      on s (run t e) _ (on s t _ (h s q) (run-ring t e)) (flush-ring h q (run t e))
+  flush-ring = flush-count true (λ (m : ℕ). R) (uncounted R (r .renews)) (r .logs)

@@ -11,7 +11,8 @@ use lib.ListN.{length, length-append}
 use borrow.Author.Tests.{le-ltb, lt-leb, leb-false, ltb-false}
 use Rattle.formula.specs.Trees.{names}
 use Rattle.meaning.specs.State.{St, Kind, signal, computed, effect, scope, readable, deps}
-use Rattle.meaning.specs.Reserve.{total, ownedLink, reserveOf, reserve}
+use Rattle.lists.specs.Sum.{bit}
+use Rattle.meaning.specs.Reserve.{total, ownedLink, reserveOf, reserve, liveLinks}
 use Rattle.meaning.specs.Links.{spent, insert}
 use Rattle.meaning.specs.WellFormed.{In, readLinks, WellFormed}
 use Rattle.meaning.proofs.Laws.{clash, either, branch, or-none, or-left, or-right, in-left, in-right}
@@ -28,14 +29,6 @@ paid g s n = length (readLinks (g .kind) (s .dep) (deps s n)) + length (ownerLin
 
 abbrev pub spends : Given → St → ℕ → ℕ
 spends g s n = reserveOf (g .kind n) (s .gone n) (g .form n) (g .owner n)
-
--- the number of live links
-abbrev one : Bool → ℕ
-one true = 1
-one false = 0
-
-abbrev pub liveLinks : St → ℕ
-liveLinks s = total (λ l. one (s .live l)) (s .room .slots)
 
 pub record Paid (g : Given) (s : St) (n : ℕ) : Type 0 where
   pub enough : paid g s n ≤ spends g s n
@@ -131,17 +124,24 @@ module _ (g : Given) (st : Static g) where
       here : (l : ℕ) → l < g .room .slots → In l (s .free ++ gather (bill s) (g .size))
       here l lo = either (s .live l) (λ e. in-right l (s .free) (gather (bill s) (g .size)) (billed s (i .lists) l e)) (λ e. in-left l (s .free) (gather (bill s) (g .size)) (i .lists .free-or-live l lo e))
 
+  -- the slots that are not free are at most the reserve
+  pub used-reserved : (X : Set) (s : St) → Inside g X s → ((n : ℕ) → n < g .size → Paid g s n) → g .room .slots ≤ reserved g (s .gone) + length (s .free)
+  used-reserved X s i all =
+      let a = live-paid X s i in
+      let b = total-least (paid g s) (spends g s) (g .size) (λ n lo. all n lo .enough) in
+      omega arith
+
   -- live links are at most the reserve, and that at most the slots
   pub live-reserved : (X : Set) (s : St) → Inside g X s → ((n : ℕ) → n < g .size → Paid g s n) → (liveLinks s ≤ reserved g (s .gone)) × (reserved g (s .gone) ≤ g .room .slots)
   live-reserved X s i all =
       let k : s .room .slots ≡ g .room .slots = ap (λ (z : Given). z .room .slots) (i .same) in
-      let a = all-marked (λ l. one (s .live l)) (s .room .slots) (gather (bill s) (g .size)) (λ l h. at l) in
+      let a = all-marked (λ l. bit (s .live l)) (s .room .slots) (gather (bill s) (g .size)) (λ l h. at l) in
       let c = bill-length s in
       let b = total-least (paid g s) (spends g s) (g .size) (λ n lo. all n lo .enough) in
       (omega arith, i .fits)
     where
-      at : (l : ℕ) → (one (s .live l) ≡ 0) ⊎ ((one (s .live l) ≡ 1) × In l (gather (bill s) (g .size)))
-      at l = either (s .live l) (λ e. inr (ap one e, billed s (i .lists) l e)) (λ e. inl (ap one e))
+      at : (l : ℕ) → (bit (s .live l) ≡ 0) ⊎ ((bit (s .live l) ≡ 1) × In l (gather (bill s) (g .size)))
+      at l = either (s .live l) (λ e. inr (ap bit e, billed s (i .lists) l e)) (λ e. inl (ap bit e))
 
   -- u has a link to spare: a slot is free, and the reserve is not spent
   pub slot-left : (X : Set) (s : St) (u : ℕ) → Inside g X s → u < g .size → paid g s u < spends g s u → ((n : ℕ) → n < g .size → Paid g s n) → (s .free ≡ [] → ⊥) × (spent s ≡ false)
@@ -171,15 +171,15 @@ ones zero = refl
 ones (suc n) = let a = ones n in omega arith
 
 -- a slot on the free list is not live
-pub live-and-free : (g : Given) (s : St) → Slots g s → total (λ l. one (s .live l)) (g .room .slots) + length (s .free) ≤ g .room .slots
+pub live-and-free : (g : Given) (s : St) → Slots g s → total (λ l. bit (s .live l)) (g .room .slots) + length (s .free) ≤ g .room .slots
 live-and-free g s o =
     let n = g .room .slots in
-    let a = most-marked (λ l. one (not (s .live l))) n (s .free) (o .free-once) (λ l j. let x = o .free-not-live l j in let e = ap (λ (b : Bool). one (not b)) (x .0) in (x .1, omega arith)) in
-    let b = total-both (λ l. one (s .live l)) (λ l. one (not (s .live l))) (λ l. 1) n (λ l h. each (s .live l)) in
+    let a = most-marked (λ l. bit (not (s .live l))) n (s .free) (o .free-once) (λ l j. let x = o .free-not-live l j in let e = ap (λ (b : Bool). bit (not b)) (x .0) in (x .1, omega arith)) in
+    let b = total-both (λ l. bit (s .live l)) (λ l. bit (not (s .live l))) (λ l. 1) n (λ l h. each (s .live l)) in
     let c = ones n in
     omega arith
   where
-    each : (b : Bool) → one b + one (not b) ≡ 1
+    each : (b : Bool) → bit b + bit (not b) ≡ 1
     each true = refl
     each false = refl
 
@@ -194,6 +194,6 @@ made-in-room g s d u v l ls is e o h =
     let c = live-and-free g (insert s d u v (l ∷ ls)) o in
     let k : s .room .slots ≡ g .room .slots = ap (λ (z : Given). z .room .slots) is in
     let f = ap length e in
-    let live : liveLinks (insert s d u v (l ∷ ls)) ≡ total (λ k. one (insert s d u v (l ∷ ls) .live k)) (g .room .slots) = ap (total (λ k. one (insert s d u v (l ∷ ls) .live k))) k in
+    let live : liveLinks (insert s d u v (l ∷ ls)) ≡ total (λ k. bit (insert s d u v (l ∷ ls) .live k)) (g .room .slots) = ap (total (λ k. bit (insert s d u v (l ∷ ls) .live k))) k in
     let same : reserve (insert s d u v (l ∷ ls)) ≡ reserve s = refl in
     (omega arith, omega arith)

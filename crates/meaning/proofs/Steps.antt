@@ -1,19 +1,16 @@
--- What single steps do, read off the definitions: a run, an update, unwatched, the gone mark. Assumes nothing.
-use mathlib.Core.Path.{_≡_, refl, sym, ap, _∙_, subst}
+-- What single steps do, read off the definitions: a run, unwatched, the gone mark. Assumes nothing.
+use mathlib.Core.Path.{_≡_, refl, ap}
 use mathlib.Core.Bool.{true, false}
-use mathlib.Core.List.{List, [], _∷_, _++_}
+use mathlib.Core.List.{List, [], _∷_}
 use mathlib.Core.Option.{Option, none, some}
 use Prim.Native.Nat.{ℕ, suc}
-use lib.IntN.{ℤ}
 use Rattle.primitive.specs.declared.flags.Named.{Named}
-use Rattle.primitive.specs.Values.{value}
-use Rattle.formula.specs.Trees.{constant}
-use Rattle.meaning.specs.State.{St, f0, f1, f2, f5, f17, raised, up}
-use Rattle.meaning.specs.Setters.{withCycle, setFl, setSto, setGone}
-use Rattle.meaning.specs.Links.{isNil, headOf, each, cut, rewind, purgeW, lastLink, disposeW, unwatchedW, unlinkN, budget, purge}
-use Rattle.meaning.specs.Reads.{Ans, evalBy, firstW, updComputed, check}
-use Rattle.meaning.specs.Engine.{logged, rerun, run}
-use Rattle.meaning.proofs.Laws.{clash, branch, up-same}
+use Rattle.meaning.specs.State.{St, f0, f2, f17}
+use Rattle.meaning.specs.Setters.{setFl, setGone}
+use Rattle.meaning.specs.Links.{isNil, headOf, each, cut, rewind, purgeW, lastLink, disposeW, unwatchedW, unlinkN}
+use Rattle.meaning.specs.Reads.{check}
+use Rattle.meaning.specs.Engine.{rerun, run}
+use Rattle.meaning.proofs.Laws.{either, clash, branch, up-same}
 use Rattle.meaning.proofs.Members.{isNil-true, isNil-false}
 
 -- ---- a run
@@ -37,24 +34,6 @@ reads-decide s e d p = (
   λ y. run-by (λ (t : St). t ≡ rerun (check s e .st) e) s e (λ x. clash x d) (λ x z. refl) (λ x z. clash y z) (λ x. clash p x),
   λ y. run-by (λ (t : St). t ≡ setFl (check s e .st) e f2) s e (λ x. clash x d) (λ x z. clash z y) (λ x z. refl) (λ x. clash p x),
 )
-
--- ---- the cycle: raised before a re-evaluation, of a computed or an effect, and not at a first one; here of a formula that reads nothing
-module _ (s : St) (n : ℕ) (k : ℤ) (f : s .form n ≡ constant k) (d : s .done n ≡ []) (r : s .rest n ≡ []) where
-  nothing-purged : (x : St) → x .rest n ≡ up (s .rest) n (s .done n ++ s .rest n) n → purge x n .cycle ≡ x .cycle
-  unfolding each
-  nothing-purged x e = subst (λ (ls : List ℕ). each (unlinkN (budget x)) x ls .cycle ≡ x .cycle) (sym (e ∙ up-same (s .rest) n (s .done n ++ s .rest n) ∙ ap (λ (z : List ℕ). z ++ s .rest n) d ∙ r)) refl
-
-  pub cycle-raised : (fr : St → ℕ → Ans) → updComputed fr s n .st .cycle ≡ raised (s .cycle)
-  unfolding updComputed evalBy
-  cycle-raised fr = rw (f) (nothing-purged (setFl (setSto (setFl (rewind (withCycle s (raised (s .cycle))) n) n f5) n (value k)) n f1) refl)
-
-  pub cycle-raised-by-run : rerun s n .cycle ≡ raised (s .cycle)
-  unfolding rerun evalBy logged
-  cycle-raised-by-run = rw (f) (nothing-purged _ refl)
-
-  pub cycle-kept-at-first : (fr : St → ℕ → Ans) → firstW fr s n .cycle ≡ s .cycle
-  unfolding firstW evalBy
-  cycle-kept-at-first fr = rw (f) refl
 
 -- ---- unlink of the last subscriber link of a computed
 -- by its two cases

@@ -81,7 +81,7 @@ drops-still = record {
   same = still;
   then = λ s t x p q. record { same = q .same ∙ p .same; gone = λ n e. q .gone n (p .gone n e) };
   stops = λ s. plain s _ (refl, refl);
-  cuts = λ s l. plain s _ (cut-still s l);
+  cuts = λ s l v. plain s _ (cut-still s l);
   bares = λ s x. record { same = refl; gone = λ n e. up-by (s .gone) x true (λ (b : Bool). b ≡ true) n (λ q. refl) (λ q. e) };
   stales = λ s d. plain s _ (refl, refl);
 }

@@ -115,7 +115,7 @@ drops = record {
   same = λ s e. e;
   then = λ s t x p q e. q (p e);
   stops = λ s e. refl;
-  cuts = cut-sticks;
+  cuts = λ s l v. cut-sticks s l;
   bares = λ s x e. e;
   stales = λ s d e. e;
 }
@@ -141,7 +141,7 @@ mark-sticks : (s : St) (m : Marks) (u : ℕ) → m .stuck ≡ true → mark s m 
 unfolding mark notify
 mark-sticks s m u h = branch (λ (x : Marks). x .stuck ≡ true) (m .fl u .watching) (λ e. or-first (m .stuck) _ h) (λ e. h)
 
-prop-sticks : (s : St) (k : ℕ) (m : Marks) (w : List ℕ) (st : List (List ℕ)) → m .stuck ≡ true → prop s k m w st .stuck ≡ true
+pub prop-sticks : (s : St) (k : ℕ) (m : Marks) (w : List ℕ) (st : List (List ℕ)) → m .stuck ≡ true → prop s k m w st .stuck ≡ true
 unfolding prop
 prop-sticks s zero m w st h = or-first (m .stuck) true h
 prop-sticks s (suc k) m [] [] h = h

@@ -16,3 +16,4 @@ pub mod Reach
 pub mod Owners
 pub mod Outcome
 pub mod Moments
+pub mod Evaluations

@@ -4,6 +4,7 @@ use mathlib.Core.Option.{Option, none, some}
 use Prim.Native.Nat.{ℕ, _+_, _*_}
 use lib.ListN.{length}
 unfoldable pub use Rattle.lists.specs.Sum.{sum as total}
+use Rattle.lists.specs.Sum.{count}
 use Rattle.formula.specs.Trees.{Tree, names}
 use Rattle.meaning.specs.State.{St, Kind, signal, computed, effect, scope}
 
@@ -24,3 +25,7 @@ reserveOf k g t o = elim k [ signal ↦ 0 | computed ↦ reserveFor t none | eff
 
 unfoldable pub reserve : St → ℕ
 reserve s = total (λ n. reserveOf (s .kind n) (s .gone n) (s .form n) (s .owner n)) (s .size)
+
+-- the number of live links
+abbrev pub liveLinks : St → ℕ
+liveLinks s = count (s .live) (s .room .slots)
