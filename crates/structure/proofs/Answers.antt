@@ -7,7 +7,6 @@ use Prim.Native.Nat.{ℕ, suc, _<_, _≤_}
 use native.Mathlib.Omega.{arith}
 use lib.Dec.{ltb}
 use lib.IntN.{ℤ}
-use lib.ListN.{length}
 use borrow.Author.Tests.{lt-ltb, le-ltb}
 use Rattle.primitive.specs.declared.flags.Named.{Named}
 use Rattle.marks.specs.Fields.{flagsOf, pending, hasOnly, without}
@@ -30,8 +29,8 @@ use Rattle.structure.proofs.Held.{inside-held}
 use Rattle.structure.proofs.Link.{both-ways}
 use Rattle.structure.proofs.FlagBytes.{without-pending}
 use Rattle.structure.proofs.Steps.{Sees, Tells}
-use Rattle.structure.proofs.Check.{Asks, asked, check-sim}
-use Rattle.structure.proofs.Updates.{low-in, kind-in, Refreshes, updated-sim}
+use Rattle.structure.proofs.Check.{Asks, check-sim}
+use Rattle.structure.proofs.Updates.{low-in, Refreshes, updated-sim}
 use Rattle.structure.proofs.Renewals.{shared, flags-are, others-tell, by, fresh-by, i-check, o-check, free-check, un-check, cleared-check, pending-goes}
 
 module _ (g : Given) (st : Static g) (ran : List ℕ) (C : List ℤ) where

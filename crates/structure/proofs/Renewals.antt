@@ -1,7 +1,7 @@
 -- Bringing a node up to date over words is bringing it up to date over lists, given nodes of lower rank, and the check of the node's own dependencies. Assumes nothing.
 use mathlib.Core.Path.{_≡_, refl, sym, ap, _∙_, subst}
 use mathlib.Core.Logic.{_⊎_, inl, inr}
-use mathlib.Core.Bool.{Bool, true, false}
+use mathlib.Core.Bool.{true, false}
 use mathlib.Core.List.{List, []}
 use Prim.Native.Nat.{ℕ, _<_}
 use native.Mathlib.Omega.{arith}
@@ -14,8 +14,8 @@ use Rattle.links.specs.Table.{tab}
 use Rattle.marks.specs.Fields.{flagsOf, setFlags, dirty, pending, has, without}
 use Rattle.reads.specs.Tables.{State, state, Told, told}
 use Rattle.reads.specs.Steps.{wokenOthers, updatedSignal, wakenIf, refreshedSignal}
-use Rattle.reads.specs.Ring.{Ring, checkedBy, updatedComputedBy, updatedBy, firstBy, renewedBy, surelyBy, refreshedComputedBy, refreshedBy}
-use Rattle.meaning.specs.State.{St, Kind, signal, computed, effect, scope, readable, bare, deps, f0, f1, f17, f33, f49, withPending}
+use Rattle.reads.specs.Ring.{Ring, checkedBy, updatedComputedBy, firstBy, renewedBy, surelyBy, refreshedComputedBy, refreshedBy}
+use Rattle.meaning.specs.State.{St, Kind, signal, computed, effect, scope, readable, bare, deps, f1, f17, f33, withPending}
 use Rattle.meaning.specs.Setters.{setFl}
 use Rattle.meaning.specs.Links.{several}
 use Rattle.meaning.specs.Marks.{shallow}

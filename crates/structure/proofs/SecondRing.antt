@@ -1,13 +1,12 @@
 -- The second ring over words is the second ring over lists: reading, the dirty check, updates and evaluation. By the bound of the lists, for every bound of the words: no bound is used up. Assumes nothing.
-use mathlib.Core.Path.{_≡_, refl, ap, _∙_}
+use mathlib.Core.Path.{_≡_, refl, ap}
 use mathlib.Core.Bool.{true, false}
 use mathlib.Core.List.{List, []}
 use Prim.Native.Nat.{ℕ, zero, suc, _<_, _≤_}
 use native.Mathlib.Omega.{arith}
 use lib.IntN.{ℤ}
-use Rattle.formula.specs.Legal.{mostNesting}
 use Rattle.reads.specs.Tables.{State, rankOf}
-use Rattle.reads.specs.Ring.{startOf, evaluatedBy, checkedBy, ringN}
+use Rattle.reads.specs.Ring.{startOf, checkedBy, ringN}
 use Rattle.reads.specs.Read.{refreshed, checked, evaluatedFor}
 use Rattle.meaning.specs.State.{St, readable, deps}
 use Rattle.meaning.specs.Reads.{settleW, checkW, fresh, settle, check, evaluate}

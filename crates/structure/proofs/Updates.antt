@@ -1,23 +1,21 @@
 -- The evaluation of a computed and the update of a node over words are those over lists, given that bringing nodes of lower rank up to date is. Assumes nothing.
 use mathlib.Core.Path.{_≡_, refl, sym, ap, _∙_, subst}
 use mathlib.Core.Logic.{inr}
-use mathlib.Core.Bool.{Bool, true, false, not}
+use mathlib.Core.Bool.{true, false, not}
 use mathlib.Core.List.{List, []}
-use Prim.Native.Nat.{ℕ, _*_, _<_, _≤_}
+use Prim.Native.Nat.{ℕ, _<_, _≤_}
 use native.Mathlib.Omega.{arith}
 use lib.Dec.{eqb}
 use lib.IntN.{ℤ}
-use lib.ListN.{length, getD}
 use Rattle.primitive.specs.declared.flags.Named.{Named}
 use Rattle.primitive.specs.declared.values.Value.{Value}
 use Rattle.primitive.specs.Values.{same}
-use Rattle.primitive.specs.Words.{USED, KIND, START, SIGNAL, COMPUTED, node}
-use Rattle.formula.specs.Trees.{Tree}
+use Rattle.primitive.specs.Words.{SIGNAL, COMPUTED}
 use Rattle.formula.specs.Legal.{mostNesting}
 use Rattle.formula.proofs.Laid.{Laid}
 use Rattle.reads.specs.Tables.{State, state, Told, told, Evaluated}
 use Rattle.reads.specs.Steps.{updatedSignal, begunFirst, begun, finishedFirst, finished}
-use Rattle.reads.specs.Ring.{Ring, kindOf, startOf, evaluatedBy, updatedComputedBy, firstBy, updatedBy}
+use Rattle.reads.specs.Ring.{Ring, startOf, evaluatedBy, updatedComputedBy, firstBy, updatedBy}
 use Rattle.meaning.specs.State.{St, Kind, signal, computed, effect, scope, readable, f0, f1, f5, up}
 use Rattle.meaning.specs.Setters.{setFl, setSto}
 use Rattle.meaning.specs.Links.{purge}
