@@ -27,11 +27,12 @@ use Rattle.meaning.proofs.Reading.{Above, Freshened, Freshens}
 use Rattle.meaning.proofs.Updating.{steady-same, n-off, upd-inside}
 use Rattle.structure.proofs.Held.{inside-held}
 use Rattle.structure.proofs.Link.{both-ways}
+use Rattle.structure.proofs.Ring.{low-at}
 use Rattle.structure.proofs.FlagBytes.{without-pending}
-use Rattle.structure.proofs.Steps.{Sees, Tells}
+use Rattle.structure.proofs.Steps.{Sees, Tells, flags-are}
 use Rattle.structure.proofs.Check.{Asks, check-sim}
-use Rattle.structure.proofs.Updates.{low-in, Refreshes, updated-sim}
-use Rattle.structure.proofs.Renewals.{shared, flags-are, others-tell, by, fresh-by, i-check, o-check, free-check, un-check, cleared-check, pending-goes}
+use Rattle.structure.proofs.Updates.{Refreshes, updated-sim}
+use Rattle.structure.proofs.Renewals.{shared, others-tell, by, fresh-by, i-check, o-check, free-check, un-check, cleared-check, pending-goes}
 
 module _ (g : Given) (st : Static g) (ran : List ℕ) (C : List ℤ) where
   -- r over words asks nodes of a rank below k as fr does over lists
@@ -63,7 +64,7 @@ module _ (g : Given) (st : Static g) (ran : List ℕ) (C : List ℤ) where
         (λ z. settles (c .after) t (s .kind n) (sym (ap (λ (y : Given). y .kind n) (i .same))) it (o-check g st ran C n r fr frs lower X x s i o h ab free q kn pd ne c w)
         (free-check g st ran C n r fr frs lower X x s i o h ab free q kn pd ne c w) (un-check g st ran C n r fr frs lower X x s i o h ab free q kn pd ne c w) (w .1))
         (λ z. let flag = cleared-check g st ran C n r fr frs lower X x s i o h ab free q kn pd ne c w z in
-        let one : without (flagsOf (c .after .nodes) n) pending ≡ 1 = ap (λ (y : ℕ). without y pending) (flags-are ran (c .after) C t n (w .1) (low-in g st X t n it h)) ∙ without-pending (t .fl n) ∙ ap byte flag in
+        let one : without (flagsOf (c .after .nodes) n) pending ≡ 1 = ap (λ (y : ℕ). without y pending) (flags-are ran (c .after) C t n (w .1) (low-at g st X t n it h)) ∙ without-pending (t .fl n) ∙ ap byte flag in
         (refl, pending-goes g st ran C n r fr frs lower X x s i o h ab free q kn pd ne c w (without (flagsOf (c .after .nodes) n) pending) one z))
 
     by-flags : ℕ → Told
@@ -98,7 +99,7 @@ module _ (g : Given) (st : Static g) (ran : List ℕ) (C : List ℤ) where
     unfolding dependencyBy by-flags
     ask-sim m =
         subst (λ (a : Ans). Tells ran C (by-flags (flagsOf (x .nodes) n)) (shared a n)) (sym (fresh-by g st ran C n r fr frs lower X x s i o h ab free q (g .kind n) refl))
-        (subst (λ (z : ℕ). Tells ran C (by-flags z) (shared (by g st ran C n r fr frs lower X x s i o h ab free q (g .kind n) (s .fl n)) n)) (sym (flags-are ran x C s n q (low-in g st X s n i h)))
+        (subst (λ (z : ℕ). Tells ran C (by-flags z) (shared (by g st ran C n r fr frs lower X x s i o h ab free q (g .kind n) (s .fl n)) n)) (sym (flags-are ran x C s n q (low-at g st X s n i h)))
         (by-kind m (i .rests n h (n-off g st n fr frs X s n i o h ab (omega arith) rn)) (g .kind n) refl))
 
   -- ---- all dependencies of u
@@ -186,6 +187,6 @@ module _ (g : Given) (st : Static g) (ran : List ℕ) (C : List ℤ) where
     pub check-tells : (x : State) (s : St) → Inside g X s → Open g st X s → s .stuck ≡ false → (deps s u ≡ [] → ⊥) → Sees ran x C s → Tells ran C (checkedBy C r x u) (checkW fr s u)
     check-tells x s i o free some q =
         let w = inside-held g X s st i in
-        check-sim C r u fr ran C (Mid (deps s u)) (deps s u) (λ t p. p .lists) (λ t p. low-in g st X t u (p .inside) hu) (λ t l p j. lower (deps s u) t l p j) (λ y t l j p z e m. asks (deps s u) t l p j m y z)
+        check-sim C r u fr ran C (Mid (deps s u)) (deps s u) (λ t p. p .lists) (λ t p. low-at g st X t u (p .inside) hu) (λ t l p j. lower (deps s u) t l p j) (λ y t l j p z e m. asks (deps s u) t l p j m y z)
         x s (record { inside = i; opened = o; free = free; lists = refl }) q some
         (most-below (s .room .slots) (deps s u) (w .lists .deps-once u) (λ l j. w .lists .live-slot l (w .lists .deps-live l u j .0)))

@@ -26,8 +26,7 @@ use Rattle.structure.proofs.Chained.{chain-at}
 use Rattle.structure.proofs.Lens.{ptr}
 use Rattle.structure.proofs.CutOut.{next-of}
 use Rattle.structure.proofs.FlagBytes.{has-dirty}
-use Rattle.structure.proofs.Marked.{flag-is, shows-marked}
-use Rattle.structure.proofs.Steps.{Sees, Tells}
+use Rattle.structure.proofs.Steps.{Sees, Tells, flags-are}
 
 abbrev pick : Bool → Told → Told → Told
 pick b x y = elim b [ true ↦ x | false ↦ y ]
@@ -52,7 +51,7 @@ module _ (ws : List ℤ) (r : Ring) (u : ℕ) (fr : St → ℕ → Ans) (ran : L
       (asks : (x : State) (s : St) (l : ℕ) → In l ds → P s → Sees ran x C s → s .fl u .dirty ≡ false → s .fl (s .dep l) .mutable ≡ true → Asks x s (s .dep l)) where
     module _ (x : State) (s : St) (q : Sees ran x C s) (p : P s) where
       dirty-is : has (flagsOf (x .nodes) u) dirty ≡ s .fl u .dirty
-      dirty-is = ap (λ (z : ℕ). has z dirty) (flag-is ran (x .nodes) s (s .fl) (s .queue) (shows-marked ran (tab (x .nodes) (x .links)) (x .values) C s q) u (low s p)) ∙ has-dirty (s .fl u)
+      dirty-is = ap (λ (z : ℕ). has z dirty) (flags-are ran x C s u q (low s p)) ∙ has-dirty (s .fl u)
 
       already : (d : ℕ) → s .fl u .dirty ≡ true → dirtyBy ws r x u d ≡ told true x
       unfolding dirtyBy

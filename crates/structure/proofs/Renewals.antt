@@ -32,11 +32,11 @@ use Rattle.meaning.proofs.Updating.{n-off, update-inside, signal-inside, n-chec
 use Rattle.structure.specs.Rep.{kindWord}
 use Rattle.structure.proofs.Held.{inside-held}
 use Rattle.structure.proofs.Link.{both-ways}
+use Rattle.structure.proofs.Ring.{low-at}
 use Rattle.structure.proofs.Stored.{flag-shows}
-use Rattle.structure.proofs.Marked.{flag-is, shows-marked}
 use Rattle.structure.proofs.Shallow.{woken-shows, others-shows}
-use Rattle.structure.proofs.Steps.{Sees, Tells, signal-sees}
-use Rattle.structure.proofs.Updates.{low-in, kind-in, Refreshes, first-sim, update-sim}
+use Rattle.structure.proofs.Steps.{Sees, Tells, flags-are, signal-sees}
+use Rattle.structure.proofs.Updates.{kind-in, Refreshes, first-sim, update-sim}
 
 -- a change wakes the subscribers
 abbrev pub settled : Ans → ℕ → St
@@ -46,29 +46,25 @@ settled a n = elim (a .yes) [ true ↦ shallow (a .st) n | false ↦ a .st ]
 abbrev pub shared : Ans → ℕ → Ans
 shared a n = elim (a .yes) [ true ↦ ans (elim (several (a .st .subs n)) [ true ↦ shallow (a .st) n | false ↦ a .st ]) true | false ↦ ans (a .st) false ]
 
--- the flags in the words
-pub flags-are : (ran : List ℕ) (x : State) (C : List ℤ) (s : St) (n : ℕ) → Sees ran x C s → n < s .size → flagsOf (x .nodes) n ≡ byte (s .fl n)
-flags-are ran x C s n q h = flag-is ran (x .nodes) s (s .fl) (s .queue) (shows-marked ran (tab (x .nodes) (x .links)) (x .values) C s q) n h
-
 module _ (g : Given) (st : Static g) (ran : List ℕ) (C : List ℤ) where
   pub wakes-sees : (X : Set) (t : Told) (a : Ans) (n : ℕ) → Inside g X (a .st) → n < g .size → Tells ran C t a → Sees ran (wakenIf t n) C (settled a n)
   unfolding wakenIf
   wakes-sees X t a n i h w =
       both-ways (λ (p : State) (z : St). Sees ran p C z) (t .changed) (a .yes) (w .0)
-      (λ c. woken-shows g st X ran (tab (t .after .nodes) (t .after .links)) (t .after .values) C (a .st) n i (w .1) (low-in g st X (a .st) n i h))
+      (λ c. woken-shows g st X ran (tab (t .after .nodes) (t .after .links)) (t .after .values) C (a .st) n i (w .1) (low-at g st X (a .st) n i h))
       (λ c. w .1)
 
   pub others-tell : (X : Set) (t : Told) (a : Ans) (n : ℕ) → Inside g X (a .st) → n < g .size → Tells ran C t a
       → Tells ran C (elim (t .changed) [ true ↦ told true (state (wokenOthers (t .after .links) (t .after .nodes) n) (t .after .links) (t .after .values)) | false ↦ told false (t .after) ]) (shared a n)
   others-tell X t a n i h w =
       both-ways (Tells ran C) (t .changed) (a .yes) (w .0)
-      (λ c. (refl, others-shows g st X ran (tab (t .after .nodes) (t .after .links)) (t .after .values) C (a .st) n i (w .1) (low-in g st X (a .st) n i h)))
+      (λ c. (refl, others-shows g st X ran (tab (t .after .nodes) (t .after .links)) (t .after .values) C (a .st) n i (w .1) (low-at g st X (a .st) n i h)))
       (λ c. (refl, w .1))
 
   module _ (n : ℕ) (r : Ring) (fr : St → ℕ → Ans) (frs : Freshens g st n fr) (lower : Refreshes g st ran C n r fr) (X : Set) (x : State) (s : St) (i : Inside g X s) (o : Open g st X s) (h : n < g .size)
       (ab : Above g st X n) (free : s .stuck ≡ false) (q : Sees ran x C s) where
     abbrev low : n < s .size
-    low = low-in g st X s n i h
+    low = low-at g st X s n i h
 
     -- what the list operation does, by the flags
     abbrev pub by : Kind → Named → Ans
@@ -141,7 +137,7 @@ module _ (g : Given) (st : Static g) (ran : List ℕ) (C : List ℤ) where
         pending-goes z e same =
             subst (λ (f : Named). Sees ran (state (setFlags (c .after .nodes) n z) (c .after .links) (c .after .values)) C (setFl t n f)) (sym (cleared-check same))
             (subst (λ (f : ℕ). Sees ran (state (setFlags (c .after .nodes) n f) (c .after .links) (c .after .values)) C (setFl t n f1)) (sym e)
-            (flag-shows ran (tab (c .after .nodes) (c .after .links)) (c .after .values) C t n (inside-held g X t st i-check) (w .1) (low-in g st X t n i-check h) 1 f1 refl refl))
+            (flag-shows ran (tab (c .after .nodes) (c .after .links)) (c .after .values) C t n (inside-held g X t st i-check) (w .1) (low-at g st X t n i-check h) 1 f1 refl refl))
 
       module _ (checks : s .fl n .pending ≡ true → (deps s n ≡ [] → ⊥) → Tells ran C (checkedBy C r x n) (checkW fr s n)) where
         surely : s .fl n ≡ f33 → (s .done n ≡ [] → ⊥) → Sees ran (surelyBy C r x n 33) C (settled (pendingW fr s n) n)

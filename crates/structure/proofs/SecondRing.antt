@@ -1,5 +1,5 @@
 -- The second ring over words is the second ring over lists: reading, the dirty check, updates and evaluation. By the bound of the lists, for every bound of the words: no bound is used up. Assumes nothing.
-use mathlib.Core.Path.{_≡_, refl, ap}
+use mathlib.Core.Path.{_≡_, refl}
 use mathlib.Core.Bool.{true, false}
 use mathlib.Core.List.{List, []}
 use Prim.Native.Nat.{ℕ, zero, suc, _<_, _≤_}
@@ -15,6 +15,7 @@ use Rattle.meaning.proofs.Inside.{Set, Static, Goes, Inside}
 use Rattle.meaning.proofs.Frames.{Open}
 use Rattle.meaning.proofs.Reading.{Above, Freshens, reads-of, During}
 use Rattle.meaning.proofs.Updating.{check-apart, fresh-inside}
+use Rattle.meaning.proofs.Running.{size-is}
 use Rattle.structure.specs.Rep.{hasForm}
 use Rattle.structure.proofs.Steps.{Sees, Tells}
 use Rattle.structure.proofs.Evaluation.{evaluation-sim}
@@ -59,20 +60,17 @@ module _ (g : Given) (st : Static g) (ran : List ℕ) (C : List ℤ) where
   second-ring (suc b) = let k = second-ring b in record { refreshes = refreshes-at b k; answers = answers-at b k }
 
   -- ---- what callers cite; the bound over words is the rank of the node, over lists the number of nodes
-  size-in : (X : Set) (s : St) → Inside g X s → s .size ≡ g .size
-  size-in X s i = ap (λ (z : Given). z .size) (i .same)
-
   -- a node brought up to date
   pub refreshed-sees : (X : Set) (x : State) (s : St) (n : ℕ) → Inside g X s → Open g st X s → n < g .size → readable (g .kind n) ≡ true → Above g st X n → s .stuck ≡ false → Sees ran x C s
       → Sees ran (refreshed C x n) C (settle s n)
   unfolding refreshed rankOf ringN
-  refreshed-sees X x s n i o h r ab free q = let e = size-in X s i in second-ring (s .size) .refreshes (suc n) (suc n) (omega arith) (omega arith) X x s n i o h r ab (omega arith) free q
+  refreshed-sees X x s n i o h r ab free q = let e = size-is g st X s i in second-ring (s .size) .refreshes (suc n) (suc n) (omega arith) (omega arith) X x s n i o h r ab (omega arith) free q
 
   -- the dirty check of u
   pub checked-tells : (X : Set) (u : ℕ) → u < g .size → ((m : ℕ) → X m → readable (g .kind m) ≡ true → u ≤ m) → ((d : ℕ) → d < g .size → Goes g d u → X d → ⊥)
       → (x : State) (s : St) → Inside g X s → Open g st X s → s .stuck ≡ false → (deps s u ≡ [] → ⊥) → Sees ran x C s → Tells ran C (checked C x u) (check s u)
   unfolding checked rankOf
-  checked-tells X u h above apart x s i = let e = size-in X s i in checks (s .size) (second-ring (s .size)) u u (omega arith) (omega arith) X h above apart x s i
+  checked-tells X u h above apart x s i = let e = size-is g st X s i in checks (s .size) (second-ring (s .size)) u u (omega arith) (omega arith) X h above apart x s i
 
   -- the evaluation of u, which has begun
   pub evaluated-sees : (X : Set) (u : ℕ) → X u → u < g .size → hasForm (g .kind u) ≡ true → ((m : ℕ) → X m → readable (g .kind m) ≡ true → u ≤ m)
@@ -80,6 +78,6 @@ module _ (g : Given) (st : Static g) (ran : List ℕ) (C : List ℤ) where
       → Sees ran (evaluatedFor C x u .after) C (evaluate s u .st) × During g st X u s (reads-of g st u) (evaluate s u .st) × (evaluatedFor C x u .value ≡ evaluate s u .val)
   unfolding evaluatedFor rankOf
   evaluated-sees X u xu h f above x s d free q =
-      let e = size-in X s (d .inside) in
+      let e = size-is g st X s (d .inside) in
       evaluation-sim g st u (fresh (s .size)) (freshens-at (s .size) u (omega arith)) (ringN C u) ran C (second-ring (s .size) .refreshes u u (omega arith) (omega arith)) X u xu h above s (d .inside) (omega arith) free C (startOf x u) x s
       (form-laid g st ran C X x s u (d .inside) h f q) d q

@@ -33,6 +33,7 @@ use Rattle.structure.proofs.Chained.{chain-ext, back-ext}
 use Rattle.structure.proofs.Held.{Held, Shows}
 use Rattle.structure.proofs.Stored.{held-rewind, rewind-shows, flag-shows}
 use Rattle.structure.proofs.Link.{link-shows}
+use Rattle.structure.proofs.Marked.{flag-is, shows-marked}
 use Rattle.structure.proofs.Ring.{Strict}
 use Rattle.structure.proofs.Dispose.{purge-shows}
 
@@ -172,6 +173,10 @@ Sees ran x C s = RepAfter ran (x .nodes) (x .links) (x .values) C s
 -- and whether a value has changed
 abbrev pub Tells : List ℕ → List ℤ → Told → Ans → Type 0
 Tells ran C a b = (a .changed ≡ b .yes) × Sees ran (a .after) C (b .st)
+
+-- the flags of a node
+pub flags-are : (ran : List ℕ) (x : State) (C : List ℤ) (s : St) (n : ℕ) → Sees ran x C s → n < s .size → flagsOf (x .nodes) n ≡ byte (s .fl n)
+flags-are ran x C s n q h = flag-is ran (x .nodes) s (s .fl) (s .queue) (shows-marked ran (tab (x .nodes) (x .links)) (x .values) C s q) n h
 
 held-as : (s : St) (n : ℕ) (F : Named) → Held s → Held (setFl s n F)
 held-as s n F w = record { lists = w .lists; fit = w .fit }

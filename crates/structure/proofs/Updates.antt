@@ -30,13 +30,11 @@ use Rattle.meaning.proofs.Updating.{also-above, purge-apart, begun-first, begun
 use Rattle.structure.specs.Rep.{kindWord, hasForm, Spelt}
 use Rattle.structure.proofs.WordLaws.{spelt-laid}
 use Rattle.structure.proofs.Held.{inside-held}
+use Rattle.structure.proofs.Ring.{low-at}
 use Rattle.structure.proofs.Steps.{Sees, Tells, begun-first-sees, begun-sees, finished-first-sees, finished-sees, signal-sees}
 use Rattle.structure.proofs.Evaluation.{evaluation-sim}
 
 module _ (g : Given) (st : Static g) where
-  pub low-in : (X : Set) (s : St) (n : ℕ) → Inside g X s → n < g .size → n < s .size
-  low-in X s n i h = subst (λ (z : Given). n < z .size) (sym (i .same)) h
-
   pub kind-in : (X : Set) (s : St) (n : ℕ) (c : Kind) → Inside g X s → g .kind n ≡ c → s .kind n ≡ c
   kind-in X s n c i k = ap (λ (z : Given). z .kind n) (i .same) ∙ k
 
@@ -56,7 +54,7 @@ module _ (g : Given) (st : Static g) where
         let a = q .registers .used in
         let b = q .lengths .of-cells in
         let c : s .used ≤ s .room .cells = subst (λ (z : Given). z .used ≤ z .room .cells) (sym (i .same)) (st .cells-fit) in
-        let w : Spelt (x .nodes) C n (s .form n) = q .forms .spelt n (low-in X s n i h) (ap (λ (z : Given). hasForm (z .kind n)) (i .same) ∙ k) in
+        let w : Spelt (x .nodes) C n (s .form n) = q .forms .spelt n (low-at g st X s n i h) (ap (λ (z : Given). hasForm (z .kind n)) (i .same) ∙ k) in
         subst (λ (z : Given). Laid C (z .form n) (startOf x n)) (i .same) (spelt-laid (x .nodes) C n (omega arith) (s .form n) w)
 
     -- ---- the evaluation of a computed n, at rest in s, from s₁, where its flags are 5
@@ -75,7 +73,7 @@ module _ (g : Given) (st : Static g) where
         flags-stay = went .1 .calm (ap (λ (z : Named). z .pending) own) ∙ own
 
         low-after : n < lists .st .size
-        low-after = low-in (also X n) (lists .st) n (went .1 .inside) h
+        low-after = low-at g st (also X n) (lists .st) n (went .1 .inside) h
 
         abbrev stored : St
         stored = setFl (setSto (lists .st) n (lists .val)) n f1
@@ -98,7 +96,7 @@ module _ (g : Given) (st : Static g) where
 
       module _ (x : State) (s : St) (i : Inside g X s) (o : Open g st X s) (free : s .stuck ≡ false) (q : Sees ran x C s) where
         abbrev low : n < s .size
-        low = low-in X s n i h
+        low = low-at g st X s n i h
 
         laid : Laid C (g .form n) (startOf x n)
         laid = form-laid X x s n i h (ap hasForm kn) q
@@ -124,10 +122,10 @@ module _ (g : Given) (st : Static g) where
       pub updated-sim : (s .fl n ≡ f1 → ⊥) → (c : Kind) → g .kind n ≡ c → Tells ran C (updatedBy C r x n) (updW fr c s n)
       unfolding updatedBy updW
       updated-sim un signal e =
-          let w = signal-sees ran x C s n (inside-held g X s st i) q (low-in X s n i h) in
-          subst (λ (z : ℕ). Tells ran C (by-word z) (updSignal s n)) (sym (q .kinds .kind-word n (low-in X s n i h) ∙ ap kindWord (kind-in X s n signal i e))) (w .1, w .0)
+          let w = signal-sees ran x C s n (inside-held g X s st i) q (low-at g st X s n i h) in
+          subst (λ (z : ℕ). Tells ran C (by-word z) (updSignal s n)) (sym (q .kinds .kind-word n (low-at g st X s n i h) ∙ ap kindWord (kind-in X s n signal i e))) (w .1, w .0)
       updated-sim un computed e =
-          subst (λ (z : ℕ). Tells ran C (by-word z) (updComputed fr s n)) (sym (q .kinds .kind-word n (low-in X s n i h) ∙ ap kindWord (kind-in X s n computed i e)))
+          subst (λ (z : ℕ). Tells ran C (by-word z) (updComputed fr s n)) (sym (q .kinds .kind-word n (low-at g st X s n i h) ∙ ap kindWord (kind-in X s n computed i e)))
           (update-sim n r fr frs lower X h e ab x s i o free q un)
       updated-sim un effect e = clash rn (ap readable e)
       updated-sim un scope e = clash rn (ap readable e)
