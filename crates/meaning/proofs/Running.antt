@@ -110,6 +110,10 @@ module _ (g : Given) (st : Static g) where
     pub run-above : (m : ℕ) → Run e m → readable (g .kind m) ≡ true → rank e ≤ rank m
     run-above m (inr q) r = clash r (ap (λ (z : ℕ). readable (g .kind z)) q ∙ re)
 
+    -- e is no dependency of itself
+    pub run-apart : (d : ℕ) → d < g .size → Goes g d e → Run e d → ⊥
+    run-apart d hd gd (inr z) = never-back g st d e hd gd (subst (Under g d) z (under-same g st d))
+
     run-known : (m : ℕ) → Run e m ⊎ (Run e m → ⊥)
     run-known m = either (eqb m e) (λ q. inl (inr (eqb-true m e q))) (λ q. inr (off (eqb-false m e q)))
       where
@@ -168,6 +172,8 @@ module _ (g : Given) (st : Static g) where
             left = left;
             spare = spare;
             tail = λ q. q;
+            calm = λ q. refl;
+            sto = refl;
             known = run-known;
             pays = λ n h x q. absurd (q (at n x));
           }
@@ -279,7 +285,7 @@ module _ (g : Given) (st : Static g) where
         let f₁ : Frame g (Near g st e) (rank e) s s₁ = frame-flags g (Near g st e) e s s₁ refl refl refl refl refl refl
         (λ m z. (up-other (s .done) e [] m (λ q. z (inr q)), up-other (s .rest) e (s .done e ++ s .rest e) m (λ q. z (inr q))))
         (λ m z q. up-other (s .fl) e f6 m (λ x. z (inr x)))
-        (λ m q. kept m q) in
+        (λ m q. kept m q) (λ m z q. refl) in
         let all : s₁ .rest e ≡ s .done e = up-same (s .rest) e (s .done e ++ s .rest e) ∙ ap (λ (x : List ℕ). s .done e ++ x) (l .tail) ∙ append-nil (s .done e) in
         let few : length (readLinks (g .kind) (s .dep) (s₁ .rest e)) ≤ reads-of g st e = subst (λ (x : List ℕ). length (readLinks (g .kind) (s .dep) x) ≤ reads-of g st e) (sym all) (l .few) in
         subst (λ (t : Tree). let x = purge (setFl (logged (evalBy (readW (fresh (s .size)) e) t s₁) e) e f2) e in Goes-on g nobody s x × Others s x × Disposed x × Spared s x) (sym (ap (λ (z : Given). z .form e) (i .same)))
@@ -404,9 +410,6 @@ module _ (g : Given) (st : Static g) where
         pub has-deps : deps s′ e ≡ [] → ⊥
         unfolding readLinks
         has-deps z = reads (ap (readLinks (g .kind) (s .dep)) (append-is-nil (s .done e) (s .rest e) z .0))
-
-        pub run-apart : (d : ℕ) → d < g .size → Goes g d e → Run e d → ⊥
-        run-apart d hd gd (inr z) = never-back g st d e hd gd (subst (Under g d) z (under-same g st d))
 
         pub checked : Checked g st (s′ .size) (fresh (s′ .size)) (fresh-inside g st (s′ .size)) (Run e) s′ e (check s′ e)
         checked =

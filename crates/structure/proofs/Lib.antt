@@ -30,4 +30,9 @@ pub mod Evaluate
 pub mod Batch
 pub mod Check
 pub mod Evaluation
-pub mod Signals
+pub mod Updates
+pub mod Renewals
+pub mod Answers
+pub mod SecondRing
+pub mod Ringed
+pub mod ReadSame
