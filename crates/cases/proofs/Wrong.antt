@@ -1,7 +1,7 @@
 -- No engine that keeps the promise of `command` is one of document 01's five wrong ones: each breaks it on one script. Assumes nothing.
 use mathlib.Core.Path.{_≡_, refl, sym, ap, _∙_}
-use mathlib.Core.List.{List, [], _∷_}
-use Prim.Native.Nat.{ℕ, zero, suc, _*_}
+use mathlib.Core.List.{List}
+use Prim.Native.Nat.{ℕ, _*_}
 use native.Mathlib.Omega.{arith}
 use lib.IntN.{ℤ, pos}
 use lib.ListN.{replicate, getD}
@@ -9,9 +9,9 @@ use Rattle.meaning.specs.Words.{nodeOf}
 use Rattle.meaning.specs.Cases.{small, rows, signalW, effectW, setW, readW, unowned}
 use Rattle.formula.specs.Trees.{read}
 use Rattle.operations.specs.Log.{rowWords}
-use Rattle.engine.specs.Command.{Answered, commandIn}
+use Rattle.engine.specs.Command.{Answered}
 use Rattle.cases.specs.Scripts.{Lent, left, emptyTables, answered}
-use Rattle.cases.specs.Wrong.{Engine, Keeps, RefusesEverything, ReadsBackZero, StoresNothing, SettlesFirstFlush, InventsRuns, idle, numbers, tried, triedNumbers}
+use Rattle.cases.specs.Wrong.{Engine, Keeps, RefusesEverything, ReadsBackZero, StoresNothing, SettlesFirstFlush, InventsRuns, idle, numbers}
 use Rattle.cases.proofs.AllCases.{tried-numbers}
 
 -- the answers one by one, and the tables between them

@@ -31,3 +31,4 @@ pub mod Batch
 pub mod Check
 pub mod Evaluation
 pub mod Signals
+pub mod Demand1
