@@ -1,1 +1,2 @@
 pub mod AllCases
+pub mod Wrong

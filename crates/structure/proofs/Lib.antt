@@ -36,3 +36,4 @@ pub mod Answers
 pub mod SecondRing
 pub mod Ringed
 pub mod ReadSame
+pub mod Demand1

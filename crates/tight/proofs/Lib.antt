@@ -1,0 +1,15 @@
+pub mod Rings
+pub mod OfPrimitive
+pub mod OfFormula
+pub mod OfLinks
+pub mod OfMarks
+pub mod OfReads
+pub mod OfCounts
+pub mod OfDescribed
+pub mod OfJoined
+pub mod OfRefusals
+pub mod OfOperations
+pub mod OfEngine
+pub mod OfText
+pub mod OfScript
+pub mod OfPacks
