@@ -29,7 +29,7 @@ use Rattle.meaning.proofs.Dropping.{flags-inside, rewind-inside, purge-
 use Rattle.meaning.proofs.Room.{ownerLinks, spends, Paid, rests-paid}
 use Rattle.meaning.proofs.Frames.{others, Low, Frame, frame-flags, frame-same, frame-then, frame-wider, frame-reads, Open}
 use Rattle.meaning.proofs.Binding.{SameReads, reads-then}
-use Rattle.meaning.proofs.Reading.{settle-inside, Near, reads-of, During, eval-during}
+use Rattle.meaning.proofs.Reading.{Settled, settle-inside, Near, reads-of, During, eval-during}
 use Rattle.meaning.proofs.Updating.{Checked, check-inside, fresh-inside}
 
 -- well-formed inside, and not stuck unless it was
@@ -48,17 +48,18 @@ module _ (g : Given) (st : Static g) where
   nobody-open s = record { known = λ n. inr (λ x. x); pays = λ n h x. absurd x }
 
   -- ---- a read
-  pub read-inside : (s : St) (n : ℕ) → Inside g nobody s → n < g .size → readable (g .kind n) ≡ true → Goes-on g nobody s (settle s n)
-  read-inside s n i h r =
+  pub read-settles : (s : St) (n : ℕ) → Inside g nobody s → n < g .size → readable (g .kind n) ≡ true → Settled g st nobody s n (settle s n)
+  read-settles s n i h r =
       let e = size-is nobody s i in
-      let w = settle-inside g st (s .size) (fresh (s .size)) (fresh-inside g st (s .size)) nobody s n i (nobody-open s) h r (λ m x q. absurd x) (omega arith) in
-      record { inside = w .inside; stuck = w .frame .stuck }
+      settle-inside g st (s .size) (fresh (s .size)) (fresh-inside g st (s .size)) nobody s n i (nobody-open s) h r (λ m x q. absurd x) (omega arith)
+
+  pub read-inside : (s : St) (n : ℕ) → Inside g nobody s → n < g .size → readable (g .kind n) ≡ true → Goes-on g nobody s (settle s n)
+  read-inside s n i h r = let w = read-settles s n i h r in record { inside = w .inside; stuck = w .frame .stuck }
 
   -- it leaves the links of effects alone
   pub read-reads : (s : St) (n : ℕ) → Inside g nobody s → n < g .size → readable (g .kind n) ≡ true → (e : ℕ) → g .kind e ≡ effect → SameReads (g .kind) s (settle s n) e
   read-reads s n i h r e k =
-      let z = size-is nobody s i in
-      let w = settle-inside g st (s .size) (fresh (s .size)) (fresh-inside g st (s .size)) nobody s n i (nobody-open s) h r (λ m x q. absurd x) (omega arith) in
+      let w = read-settles s n i h r in
       frame-reads g st nobody (Low g (suc (rank n))) (suc n) s (settle s n) e i (w .frame) (λ p. clash (ap isEffect k) (ap isEffect (p .0)))
 
   -- who has read links only has lost what it owned
