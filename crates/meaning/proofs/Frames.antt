@@ -43,7 +43,7 @@ Stores s t = t .sto ≡ s .sto
 
 pub purge-sto : (s : St) (u : ℕ) → purge s u .sto ≡ s .sto
 unfolding cut
-purge-sto = purge-ring Stores (record { same = λ s. refl; then = λ s t x p q. q ∙ p; stops = λ s. refl; cuts = λ s l. refl; bares = λ s x. refl; stales = λ s d. refl })
+purge-sto = purge-ring Stores (record { same = λ s. refl; then = λ s t x p q. q ∙ p; stops = λ s. refl; cuts = λ s l v. refl; bares = λ s x. refl; stales = λ s d. refl })
 
 -- ---- computeds of a rank below b
 abbrev pub Low : Given → ℕ → Set

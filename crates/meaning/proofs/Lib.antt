@@ -43,4 +43,5 @@ pub mod Unwatched
 pub mod Throughout
 pub mod Stepped
 pub mod Cycle
+pub mod Valued
 pub mod Promised

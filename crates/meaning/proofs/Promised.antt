@@ -12,11 +12,11 @@ use lib.IntN.{ℤ, pos}
 use lib.ListN.{length, drop}
 use borrow.Author.Tests.{leb-false, ltb-false}
 use Rattle.primitive.specs.declared.values.Value.{Value}
-use Rattle.meaning.specs.State.{St, Row, signal, computed, readable, deps, unclean, f2, f17}
+use Rattle.meaning.specs.State.{St, Row, signal, computed, readable, deps, unclean, f1, f2, f17}
 use Rattle.meaning.specs.Setters.{withQueue, withDepth, withLog, setFl, setPend}
 use Rattle.meaning.specs.Links.{several, cut, unlink}
 use Rattle.meaning.specs.Marks.{Marks, marksOf, notify, prop, propagate}
-use Rattle.meaning.specs.Words.{Command, makeEffect, disposeOf, commandOf, ownerOf, formulaOf}
+use Rattle.meaning.specs.Words.{Command, makeEffect, readOf, disposeOf, commandOf, nodeOf, ownerOf, formulaOf}
 use Rattle.meaning.specs.Reserve.{total, reserveOf, reserve, liveLinks}
 use Rattle.meaning.specs.Refusals.{sightOf, asksOf}
 use Rattle.meaning.specs.WellFormed.{In, Once, WellFormed}
@@ -47,6 +47,7 @@ use Rattle.meaning.proofs.Unwatched.{becomes-17, stays}
 use Rattle.meaning.proofs.Throughout.{few-live, moment-within}
 use Rattle.meaning.proofs.Stepped.{perform-steps, begun-within}
 use Rattle.meaning.proofs.Cycle.{perform-counts}
+use Rattle.meaning.proofs.Valued.{read-valued}
 
 -- n is gone, and has no links
 abbrev pub Bare : St → ℕ → Type 0
@@ -147,6 +148,10 @@ module _ (s : St) (rows : ℕ) (ws : List ℤ) (w : WellFormed s) (ok : command 
   -- what is new is not gone
   pub new-lives : (n : ℕ) → s .size ≤ n → n < t .size → t .gone n ≡ false
   new-lives = let k = known s rows ws ok in command-told s rows w ws (k .0) (k .1) ok .lives
+
+  -- what is read has a value: the node is clean (flags 1; only flags 0 means no value), and its stored value is the answer. In a formula: `m-settled` (Reading)
+  pub read-has-value : (n : ℤ) → commandOf ws ≡ some (readOf n) → (t .fl (nodeOf n) ≡ f1) × (a .val ≡ t .sto (nodeOf n))
+  read-has-value n is = read-valued s rows w ws n is ok
 
   -- live links are at most the reserve, and that at most the slots: before and after the command (inside it: `room-at-every-moment`, `room-during`, `made-in-room`)
   pub room-kept : (liveLinks s ≤ reserve s) × (reserve s ≤ s .room .slots) × (liveLinks t ≤ reserve t) × (reserve t ≤ t .room .slots)

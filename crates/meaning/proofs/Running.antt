@@ -50,18 +50,18 @@ module _ (g : Given) (st : Static g) where
 
   -- ---- a read
   module _ (s : St) (n : ℕ) (i : Inside g nobody s) (h : n < g .size) (r : readable (g .kind n) ≡ true) where
-    settled : Settled g st nobody s n (settle s n)
-    settled = let e = size-is nobody s i in settle-inside g st (s .size) (fresh (s .size)) (fresh-inside g st (s .size)) nobody s n i (nobody-open s) h r (λ m x q. absurd x) (omega arith)
+    pub read-settles : Settled g st nobody s n (settle s n)
+    read-settles = let e = size-is nobody s i in settle-inside g st (s .size) (fresh (s .size)) (fresh-inside g st (s .size)) nobody s n i (nobody-open s) h r (λ m x q. absurd x) (omega arith)
 
     pub read-inside : Goes-on g nobody s (settle s n)
-    read-inside = record { inside = settled .inside; stuck = settled .frame .stuck }
+    read-inside = record { inside = read-settles .inside; stuck = read-settles .frame .stuck }
 
     -- it leaves the links of effects alone, and every mark
     pub read-reads : (e : ℕ) → g .kind e ≡ effect → SameReads (g .kind) s (settle s n) e
-    read-reads e k = frame-reads g st nobody (Low g (suc (rank n))) (suc n) s (settle s n) e i (settled .frame) (λ p. clash (ap isEffect k) (ap isEffect (p .0)))
+    read-reads e k = frame-reads g st nobody (Low g (suc (rank n))) (suc n) s (settle s n) e i (read-settles .frame) (λ p. clash (ap isEffect k) (ap isEffect (p .0)))
 
     pub read-marks : (m : ℕ) → readable (g .kind m) ≡ false → settle s n .gone m ≡ s .gone m
-    read-marks = settled .frame .gone
+    read-marks = read-settles .frame .gone
 
   -- who has read links only has lost what it owned
   pub owned-gone : (t : St) → Inside g nobody t → (e : ℕ) → ((l : ℕ) → In l (deps t e) → readable (g .kind (t .dep l)) ≡ true) → (y : ℕ) → y < g .size → g .owner y ≡ some e → t .gone y ≡ true
