@@ -1,4 +1,4 @@
--- A flush runs live effects only, none twice, and what a run effect owned is gone: so the rows of a flush are at most the effects live at entry, and those of a command fit the lent log. Assumes nothing.
+-- A flush runs live effects only, none twice, and what a run effect owned is gone, and nothing else: so its rows are at most the effects live at entry. Assumes nothing.
 use mathlib.Core.Path.{_≡_, refl, sym, ap, ap₂, _∙_, subst}
 use mathlib.Core.Logic.{_⊎_, inl, inr}
 use mathlib.Core.Bool.{Bool, true, false, not, _&&_}
