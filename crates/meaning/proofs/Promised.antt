@@ -170,7 +170,7 @@ gone-passed-at-write s w n v h kn k e q j g =
     gone-passed (given s) (static s w) k (p .queue) p (i-propagated (given s) (static s w) s n v (rest-inside s w) h kn .inside) refl e q j g
 
 -- ---- what "not stuck" says
--- an accepted command is not stuck: so no ring and no walk ends before its work, no slot is missing and no reserve spent, and no queue or stack is full (the first half of `Stuck` says where an operation is stuck, the second that it stays so)
+-- an accepted command is not stuck: so no ring and no walk ends before its work, no slot is missing and no reserve spent, and no queue or stack is full (`Stuck` says where an operation is stuck, `command-sticks` that it stays so)
 pub nothing-stuck : (s : St) (rows : ℕ) (ws : List ℤ) → WellFormed s → s .stuck ≡ false → command true s rows ws .st .stuck ≡ false
 nothing-stuck s rows ws w e = command-kept true s rows ws w .stuck ∙ e
 
