@@ -39,7 +39,7 @@ pub mod Disposed
 pub mod Unwatched
 pub mod Throughout
 pub mod Stepped
-pub mod Between
+pub mod NotSo
 pub mod Cycle
 pub mod Valued
 pub mod Promised
