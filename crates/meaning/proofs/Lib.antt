@@ -42,6 +42,7 @@ pub mod Disposed
 pub mod Unwatched
 pub mod Throughout
 pub mod Stepped
+pub mod NotSo
 pub mod Cycle
 pub mod Valued
 pub mod Promised

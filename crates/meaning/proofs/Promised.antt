@@ -163,12 +163,12 @@ module _ (s : St) (rows : ℕ) (ws : List ℤ) (w : WellFormed s) (ok : command 
     pub made-of-steps : Steps (begun (withLog s []) c) t
     made-of-steps = subst (λ (x : Answer). Steps (begun (withLog s []) c) (x .st)) (sym (performed s rows ws c is ok .0)) (perform-steps (withLog s []) c)
 
-    -- room at every moment: live links are at most the reserve at entry, with the node that the command makes, and that is at most the slots
-    pub room-at-every-moment : s .stuck ≡ false → (x : St) → Moment (begun (withLog s []) c) t x → (liveLinks x ≤ reserveFrom s c) × (reserveFrom s c ≤ s .room .slots)
+    -- room at every moment: live links, and the reserve then, are at most the reserve at entry, with the node that the command makes, and that is at most the slots
+    pub room-at-every-moment : s .stuck ≡ false → (x : St) → Moment (begun (withLog s []) c) t x → (liveLinks x ≤ reserveFrom s c) × (reserve x ≤ reserveFrom s c) × (reserveFrom s c ≤ s .room .slots)
     room-at-every-moment e x m =
         let b = begun-within s rows w c (performed s rows ws c is ok .1) in
         let n = moment-within _ t x m (command-kept true s rows ws w .stuck ∙ e) (reserveFrom s c) (b .0) in
-        (few-live (reserveFrom s c) x n, b .1)
+        (few-live (reserveFrom s c) x n, n .reserved, b .1)
 
     -- ---- the cycle: raised once for each evaluation of the command that is not a first one; it wraps
     pub cycle-counts : s .cycle < 2 ^ 64 → t .cycle ≡ (s .cycle + reevaluations (withLog s []) c) % 2 ^ 64
@@ -214,7 +214,7 @@ gone-passed-at-write s w n v h kn k e q j g =
     gone-passed (given s) (static s w) k (p .queue) p (i-propagated (given s) (static s w) s n v (rest-inside s w) h kn .inside) refl e q j g
 
 -- ---- what "not stuck" says
--- an accepted command is not stuck: so no ring and no walk ends before its work, no slot is missing and no reserve spent, and no queue or stack is full (the first half of `Stuck` says where an operation is stuck, the second that it stays so)
+-- an accepted command is not stuck: so no ring and no walk ends before its work, no slot is missing and no reserve spent, and no queue or stack is full (`Stuck` says where an operation is stuck, `command-sticks` that it stays so)
 pub nothing-stuck : (s : St) (rows : ℕ) (ws : List ℤ) → WellFormed s → s .stuck ≡ false → command true s rows ws .st .stuck ≡ false
 nothing-stuck s rows ws w e = command-kept true s rows ws w .stuck ∙ e
 

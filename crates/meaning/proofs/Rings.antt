@@ -39,12 +39,16 @@ module _ (R : St → St → Type 0) (r : Drops R) where
   last-ring ul h none s = r .same s
   last-ring ul h (some l) s = h s l
 
-  disposeW-ring : (ul : St → ℕ → St) → ((s : St) (l : ℕ) → R s (ul s l)) → (s : St) (x : ℕ) → R s (disposeW ul s x)
+  -- a disposal from the gone mark on
+  marked-ring : (ul : St → ℕ → St) → ((s : St) (l : ℕ) → R s (ul s l)) → (s : St) (x : ℕ) → R (setGone (setFl (rewind s x) x f0) x true) (disposeW ul s x)
   unfolding disposeW
-  disposeW-ring ul h s x =
+  marked-ring ul h s x =
       let a = setGone (setFl (rewind s x) x f0) x true in
       let t = purgeW ul a x in
-      r .then s t _ (r .then s a t (r .bares s x) (each-ring ul h (a .rest x) a)) (last-ring ul h (headOf (t .subs x)) t)
+      r .then a t _ (each-ring ul h (a .rest x) a) (last-ring ul h (headOf (t .subs x)) t)
+
+  disposeW-ring : (ul : St → ℕ → St) → ((s : St) (l : ℕ) → R s (ul s l)) → (s : St) (x : ℕ) → R s (disposeW ul s x)
+  disposeW-ring ul h s x = r .then s _ _ (r .bares s x) (marked-ring ul h s x)
 
   unwatched-ring : (ul : St → ℕ → St) → ((s : St) (l : ℕ) → R s (ul s l)) → (s : St) (d : ℕ) → R s (unwatchedW ul s d)
   unfolding unwatchedW
@@ -65,6 +69,9 @@ module _ (R : St → St → Type 0) (r : Drops R) where
 
   pub purge-ring : (s : St) (u : ℕ) → R s (purge s u)
   purge-ring s u = each-ring (unlinkN (budget s)) (unlink-ring (budget s)) (s .rest u) s
+
+  pub purging-ring : (s : St) (x : ℕ) → R (setGone (setFl (rewind s x) x f0) x true) (dispose s x)
+  purging-ring s x = marked-ring (unlinkN (budget s)) (unlink-ring (budget s)) s x
 
   pub dispose-ring : (s : St) (x : ℕ) → R s (dispose s x)
   dispose-ring s x = disposeW-ring (unlinkN (budget s)) (unlink-ring (budget s)) s x

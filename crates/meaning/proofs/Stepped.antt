@@ -1,6 +1,6 @@
 -- A command is made of steps, from where it begins to its end; and where it begins the live links and the reserve are under its bound. Assumes nothing.
 use mathlib.Core.Path.{_≡_, refl, _∙_}
-use mathlib.Core.Bool.{true, false}
+use mathlib.Core.Bool.{Bool, true, false}
 use mathlib.Core.List.{List, []}
 use mathlib.Core.Option.{Option, none, some}
 use Prim.Native.Nat.{ℕ, zero, suc, _+_, _≤_}
@@ -16,19 +16,19 @@ use Rattle.meaning.specs.Links.{isNil}
 use Rattle.meaning.specs.Marks.{marksOf, turns, propagate}
 use Rattle.meaning.specs.Reads.{evaluate}
 use Rattle.meaning.specs.Engine.{logged, flushOn, flushAt, store, node, owned, newSignal, newComputed, newScope, newEffect, endAt}
-use Rattle.meaning.specs.Words.{Command, makeSignal, makeComputed, makeEffect, makeScope, setTo, addTo, readOf, disposeOf, batchStart, batchEnd, nodeOf, ownerOf, formulaOf}
+use Rattle.meaning.specs.Words.{Command, makeSignal, makeComputed, makeEffect, makeScope, setTo, addTo, readOf, disposeOf, batchStart, batchEnd, commandOf, nodeOf, ownerOf, formulaOf}
 use Rattle.meaning.specs.Reserve.{reserveOf, reserve}
-use Rattle.meaning.specs.Refusals.{sightOf, asksOf, table}
+use Rattle.meaning.specs.Refusals.{sightOf, asksOf, table, refusal}
 use Rattle.meaning.specs.WellFormed.{WellFormed}
 use Rattle.meaning.specs.Moments.{held, Step, unlinks, links, marks-gone, others, Steps, here, later, begun, reserveFrom}
-use Rattle.meaning.specs.Commands.{perform}
+use Rattle.meaning.specs.Commands.{perform, performAny, answer, command}
 use Rattle.meaning.proofs.Laws.{branch, or-first}
 use Rattle.meaning.proofs.Rings.{Drops, Renews, Runs, dispose-ring, settle-ring, evaluate-ring, flush-ring, logged-ring}
 use Rattle.meaning.proofs.Stuck.{prop-sticks}
 use Rattle.meaning.proofs.Refused.{NoneHolds}
 use Rattle.meaning.proofs.Making.{Fits, new-reserve}
 use Rattle.meaning.proofs.Accepted.{logless, signal-fits, computed-fits, effect-fits, scope-fits}
-use Rattle.meaning.proofs.Throughout.{Within, rest-within}
+use Rattle.meaning.proofs.Throughout.{Within, rest-within, steps-stick}
 
 -- ---- made of steps
 one : {s t : St} → Step s t → Steps s t
@@ -42,7 +42,7 @@ on p (later q z) = later (on p q) z
 plain : (s t : St) → held t ≡ held s → t .stuck ≡ s .stuck → Steps s t
 plain s t e k = one (others t e (λ z. k ∙ z))
 
-drops : Drops Steps
+pub drops : Drops Steps
 drops = record {
   same = λ s. here;
   then = λ s t x p q. on p q;
@@ -108,6 +108,32 @@ perform-steps s (readOf n) = settle-ring Steps renews s (nodeOf n)
 perform-steps s (disposeOf n) = dispose-ring Steps drops s (nodeOf n)
 perform-steps s batchStart = plain s _ refl refl
 perform-steps s batchEnd = end-steps s (s .depth)
+
+-- ---- so what is stuck stays so
+begun-stuck : (s : St) (c : Command) → begun s c .stuck ≡ s .stuck
+begun-stuck s (makeSignal v) = refl
+begun-stuck s (makeComputed cs) = refl
+begun-stuck s (makeEffect o cs) = refl
+begun-stuck s (makeScope o) = refl
+begun-stuck s (setTo n v) = refl
+begun-stuck s (addTo n d) = refl
+begun-stuck s (readOf n) = refl
+begun-stuck s (disposeOf n) = refl
+begun-stuck s batchStart = refl
+begun-stuck s batchEnd = refl
+
+any-sticks : (s : St) (c : Option Command) → s .stuck ≡ true → performAny s c .st .stuck ≡ true
+unfolding performAny
+any-sticks s none e = refl
+any-sticks s (some c) e = steps-stick (begun s c) (perform s c .st) (perform-steps s c) (begun-stuck s c ∙ e)
+
+pub command-sticks : (well : Bool) (s : St) (rows : ℕ) (ws : List ℤ) → s .stuck ≡ true → command well s rows ws .st .stuck ≡ true
+unfolding command answer
+command-sticks well s rows ws e = go (refusal well (sightOf s rows) ws)
+  where
+    go : (r : ℕ) → answer r s ws .st .stuck ≡ true
+    go zero = any-sticks (withLog s []) (commandOf ws) e
+    go (suc r) = e
 
 -- ---- where a command begins
 made-within : (s : St) (w : WellFormed s) (k : Kind) (t : Tree) (o : Option ℕ) (b : Named) (v : Value) → Fits s k t o → Within (reserve s + reserveOf k false t o) (node s k t o b v)

@@ -1,25 +1,15 @@
--- Stuck: where an operation cannot go on it says so, and what is stuck stays stuck. So "not stuck after a command" says that nothing in it was. Assumes nothing.
+-- Stuck: where an operation cannot go on it says so; and what is stuck stays stuck. So "not stuck after a command" says that nothing in it was. Assumes nothing.
 use mathlib.Core.Path.{_≡_, refl, ap}
 use mathlib.Core.Bool.{Bool, true, false, not, _&&_}
 use mathlib.Core.List.{List, [], _∷_, _++_, reverse}
-use mathlib.Core.Option.{Option, none, some}
 use Prim.Native.Nat.{ℕ, zero, suc, _+_}
 use lib.Dec.{leb, ltb}
-use lib.IntN.{ℤ}
 use lib.ListN.{length}
-use Rattle.primitive.specs.declared.values.Value.{Value}
-use Rattle.primitive.specs.Values.{same}
-use Rattle.meaning.specs.State.{St, effect, scope, f6, f17, nothing, unclean, recursing, deps}
-use Rattle.meaning.specs.Setters.{withDepth, withLog, setFl, setPend}
-use Rattle.meaning.specs.Links.{isNil, several, headOf, lastOf, goesTo, isFrom, renew, spent, insert, link, cut, unlinkN}
-use Rattle.meaning.specs.Marks.{Marks, marksOf, halt, chain, effects, notify, mark, stackFull, prop, turns, propagate, wakes, shallow}
+use Rattle.meaning.specs.State.{St, effect, scope, unclean, recursing, deps}
+use Rattle.meaning.specs.Links.{isNil, several, spent, insert, unlinkN}
+use Rattle.meaning.specs.Marks.{Marks, halt, chain, effects, notify, mark, stackFull, prop, wakes, shallow}
 use Rattle.meaning.specs.Reads.{Ans, updW, sameSlots, steady, checkW, fresh}
-use Rattle.meaning.specs.Engine.{logged, flushOn, flushAt, store, node, owned, newSignal, newComputed, newScope, newEffect, endAt}
-use Rattle.meaning.specs.Words.{Command, makeSignal, makeComputed, makeEffect, makeScope, setTo, addTo, readOf, disposeOf, batchStart, batchEnd, commandOf, nodeOf, ownerOf, formulaOf}
-use Rattle.meaning.specs.Refusals.{sightOf, refusal}
-use Rattle.meaning.specs.Commands.{perform, performAny, answer, command}
 use Rattle.meaning.proofs.Laws.{clash, branch, or-first, or-last}
-use Rattle.meaning.proofs.Rings.{Drops, Renews, Runs, dispose-ring, settle-ring, evaluate-ring, flush-ring}
 
 -- ---- where
 -- no slot is free
@@ -85,58 +75,7 @@ no-command s = refl
 pub shallow-wakes : (s : St) (d : ℕ) → wakes (s .sub) (s .subs d) (s .fl) ≡ true → shallow s d .stuck ≡ true
 shallow-wakes s d h = or-last (s .stuck) _ h
 
--- ---- and it stays so
-abbrev Sticks : St → St → Type 0
-Sticks s t = s .stuck ≡ true → t .stuck ≡ true
-
-cut-sticks : (s : St) (l : ℕ) → Sticks s (cut s l)
-unfolding cut
-cut-sticks s l e = e
-
-renew-sticks : (s : St) (u v : ℕ) (ls : List ℕ) → Sticks s (renew s u v ls)
-unfolding renew
-renew-sticks s u v [] e = refl
-renew-sticks s u v (l ∷ ls) e = e
-
-insert-sticks : (s : St) (d u v : ℕ) (ls : List ℕ) → Sticks s (insert s d u v ls)
-unfolding insert
-insert-sticks s d u v [] e = refl
-insert-sticks s d u v (l ∷ ls) e = or-first (s .stuck) (spent s) e
-
-link-sticks : (s : St) (d u v : ℕ) → Sticks s (link s d u v)
-unfolding link
-link-sticks s d u v =
-    branch (Sticks s) (goesTo s (lastOf (s .done u)) d) (λ a e. e)
-    (λ a. branch (Sticks s) (goesTo s (headOf (s .rest u)) d) (λ b. renew-sticks s u v (s .rest u))
-    (λ b. branch (Sticks s) (isFrom s (lastOf (s .subs d)) u v) (λ c e. e) (λ c. insert-sticks s d u v (s .free))))
-
-drops : Drops Sticks
-drops = record {
-  same = λ s e. e;
-  then = λ s t x p q e. q (p e);
-  stops = λ s e. refl;
-  cuts = λ s l v. cut-sticks s l;
-  bares = λ s x e. e;
-  stales = λ s d e. e;
-}
-
-renews : Renews Sticks
-renews = record {
-  drops = drops;
-  begins = λ s n f e. e;
-  flags = λ s n f e. e;
-  stores = λ s n v f e. e;
-  moves = λ s n e. e;
-  links = link-sticks;
-  shallows = λ s n e. or-first (s .stuck) _ e;
-}
-
-runs : Runs Sticks
-runs = record { renews = renews; logs = λ s l e. e }
-
-flush-sticks : (q : List ℕ) (s : St) → Sticks s (flushOn s q)
-flush-sticks = flush-ring Sticks runs (λ s q e. e)
-
+-- ---- a walk that is stuck stays so; of whole commands `command-sticks` (Stepped) says it
 mark-sticks : (s : St) (m : Marks) (u : ℕ) → m .stuck ≡ true → mark s m u .stuck ≡ true
 unfolding mark notify
 mark-sticks s m u h = branch (λ (x : Marks). x .stuck ≡ true) (m .fl u .watching) (λ e. or-first (m .stuck) _ h) (λ e. h)
@@ -171,54 +110,3 @@ stack-full s k m l w st cl mu sv h =
     (λ d. prop-sticks s k (halt (mark s m u) (stackFull s st)) (s .subs u) (w ∷ st) (or-last (mark s m u .stuck) _ h))
     (λ d. clash sv d))
     (λ c. clash mu c)))
-
-store-sticks : (s : St) (n : ℕ) (v : Value) → Sticks s (store s n v)
-unfolding store
-store-sticks s n v =
-    let t = setFl (setPend s n v) n f17 in
-    let p = propagate t n in
-    branch (Sticks s) (same (s .pend n) v) (λ a e. e)
-    (λ a. branch (Sticks s) (isNil (s .subs n)) (λ b e. e)
-    (λ b e. at p (p .depth) (prop-sticks t (turns t) (marksOf t) (t .subs n) [] e)))
-  where
-    at : (p : St) (d : ℕ) → Sticks p (flushAt p d)
-    at p zero = flush-sticks (p .queue) p
-    at p (suc d) = λ e. e
-
-end-sticks : (s : St) (d : ℕ) → Sticks s (endAt s d)
-end-sticks s zero = λ e. refl
-end-sticks s (suc zero) = λ e. flush-sticks (s .queue) (withDepth s 0) e
-end-sticks s (suc (suc d)) = λ e. e
-
-owned-sticks : (s : St) (n : ℕ) (o : Option ℕ) → Sticks s (owned s n o)
-owned-sticks s n none = λ e. e
-owned-sticks s n (some o) = link-sticks s n o 0
-
-perform-sticks : (s : St) (c : Command) → Sticks s (perform s c .st)
-unfolding perform newSignal newComputed newScope newEffect logged
-perform-sticks s (makeSignal v) = λ e. e
-perform-sticks s (makeComputed cs) = λ e. e
-perform-sticks s (makeEffect o cs) =
-    let a = node s effect (formulaOf cs) (ownerOf o) f6 nothing in
-    let b = owned a (s .size) (ownerOf o) in
-    λ e. evaluate-ring Sticks renews b (s .size) (owned-sticks a (s .size) (ownerOf o) e)
-perform-sticks s (makeScope o) = λ e. owned-sticks _ (s .size) (ownerOf o) e
-perform-sticks s (setTo n v) = store-sticks s (nodeOf n) _
-perform-sticks s (addTo n d) = store-sticks s (nodeOf n) _
-perform-sticks s (readOf n) = settle-ring Sticks renews s (nodeOf n)
-perform-sticks s (disposeOf n) = dispose-ring Sticks drops s (nodeOf n)
-perform-sticks s batchStart = λ e. e
-perform-sticks s batchEnd = end-sticks s (s .depth)
-
-any-sticks : (s : St) (c : Option Command) → Sticks s (performAny s c .st)
-unfolding performAny
-any-sticks s none = λ e. refl
-any-sticks s (some c) = perform-sticks s c
-
-pub command-sticks : (well : Bool) (s : St) (rows : ℕ) (ws : List ℤ) → s .stuck ≡ true → command well s rows ws .st .stuck ≡ true
-unfolding command answer
-command-sticks well s rows ws e = go (refusal well (sightOf s rows) ws)
-  where
-    go : (r : ℕ) → answer r s ws .st .stuck ≡ true
-    go zero = any-sticks (withLog s []) (commandOf ws) e
-    go (suc r) = e

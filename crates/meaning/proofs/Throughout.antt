@@ -154,6 +154,9 @@ steps-room s t (later {t = x} p q) =
     let b = step-room x t q in
     (λ e. b .0 (a .0 e), λ e n h. b .1 e n (a .1 (either (x .stuck) (λ z. clash (b .0 z) e) (λ z. z)) n h))
 
+pub steps-stick : (s t : St) → Steps s t → s .stuck ≡ true → t .stuck ≡ true
+steps-stick s t p = steps-room s t p .0
+
 -- at every moment on the way to a state that is not stuck
 pub moment-within : (s t x : St) → Moment s t x → t .stuck ≡ false → (n : ℕ) → Within n s → Within n x
 moment-within s t x m e n h =
