@@ -233,8 +233,12 @@ def ring_law(head, laws):
 
 
 def count():
+    if 'tight' not in listed():
+        print('one answer: not counted in a part of the repository without the crate tight')
+        return 0
     laws = open('crates/tight/proofs/Rings.antt', encoding='utf-8').read()
-    excused = set(re.findall(r'^\| `(\w+(?:::\w+)+)` \|', open('docs/ONE-ANSWER.md', encoding='utf-8').read(), re.M))
+    page = 'docs/ONE-ANSWER.md'
+    excused = set(re.findall(r'^\| `(\w+(?:::\w+)+)` \|', open(page, encoding='utf-8').read(), re.M)) if os.path.isfile(page) else set()
     shown = formed = ringed = 0
     seen, bad = set(), []
     for crate in listed():
