@@ -14,10 +14,12 @@ use Rattle.formula.specs.Cells.{naturalOf}
 use Rattle.formula.proofs.CellLaws.{natural-pos, natural-neg}
 use Rattle.described.specs.Whole.{describedIn}
 use Rattle.joined.specs.Joined.{joinedIn}
-use Rattle.reads.specs.Tables.{State, state}
+use Rattle.reads.specs.Tables.{State, state, Got}
+use Rattle.reads.specs.Read.{readOf}
 use Rattle.meaning.specs.Words.{commandOf, nodeOf}
 use Rattle.meaning.specs.Refusals.{Sight, table, first, refusal}
 use Rattle.refusals.specs.declared.commands.Command.{Command}
+use Rattle.refusals.specs.declared.commands.Command.the-variants.{Read}
 use Rattle.refusals.specs.Sight.{sightIn}
 use Rattle.refusals.specs.Commands.{brief}
 use Rattle.refusals.specs.Asked.{formulaIn}
@@ -82,3 +84,8 @@ module _ (n l : List ℕ) (v c g ws : List ℤ) {r : ℕ} (e : r ≡ refusalIn n
 pub numbered-by : (l : List ℤ) {m o : Made} {x : ℤ} → m ≡ o → x ≡ numberWord (m .number) → done x (ranTo (m .after) l 0) (m .cells) ≡ numbered l o
 unfolding numbered
 numbered-by l {m} p q = rw (← p, numbered, q)
+
+-- the value read is the value returned, and nothing ran
+pub read-by : (s : State) (c l ws : List ℤ) (k : ℤ) {n : ℕ} {g : Got} → n ≡ nodeOf k → g ≡ readOf c s n → done (g .value .word) (ranTo (g .after) l 0) c ≡ performed s c l (Read k) ws
+unfolding performed
+read-by s c l ws k p q = ap (λ (g : Got). done (g .value .word) (ranTo (g .after) l 0) c) (q ∙ ap (readOf c s) p)

@@ -97,11 +97,11 @@ owner-none w e = owner-word w ∙ ap ownerWord e
 module _ (N : List ℕ) (n : ℕ) where
   pub of-node : (xs : List ℕ) → n < getD N COUNT 0 → ofNode N n xs ≡ xs
   unfolding ofNode
-  of-node xs h = rw (lt-ltb n (getD N COUNT 0) h, ofNode)
+  of-node xs h = let e : xs ≡ xs = refl in rw (lt-ltb n (getD N COUNT 0) h, ofNode) e
 
   pub of-none : (xs : List ℕ) → getD N COUNT 0 ≤ n → ofNode N n xs ≡ []
   unfolding ofNode
-  of-none xs h = rw (le-ltb n (getD N COUNT 0) h, ofNode)
+  of-none xs h = let e : _≡_ {A = List ℕ} [] [] = refl in rw (le-ltb n (getD N COUNT 0) h, ofNode) e
 
   pub in-node : (x : ℕ) (xs : List ℕ) → In x (ofNode N n xs) → (n < getD N COUNT 0) × In x xs
   unfolding ofNode

@@ -17,7 +17,7 @@ use Rattle.text.specs.declared.lines.End.the-variants.{At, Unended, Long
 use Rattle.text.specs.declared.lines.Count.the-variants.{Are, Fault}
 use Rattle.text.specs.Numbers.{spelled}
 use Rattle.text.specs.Buffers.{Buffer, pushed, put}
-use Rattle.text.specs.Lines.{firstOf, begins, onto, pieces, ahead, eachSpelled, numbers, commandKey, commandLine, argsKey, argsLine, endOf}
+use Rattle.text.specs.Lines.{firstOf, begins, onto, pieces, ahead, eachSpelled, numbers, commandKey, commandLine, argsKey, argsLine, longest, endOf}
 use Rattle.text.specs.Pairs.{countFrom, worth, worths, argWords, behind}
 use Rattle.text.proofs.Tests.{yes-branch, no-branch, branch, either, clash}
 
@@ -76,15 +76,15 @@ key-fits (k ∷ key) (x ∷ s) e = either (eqb x k) (λ t. let h = key-fits key 
 module _ (w : List ℕ) {i : ℕ} (e : i ≡ firstOf 10 w) where
   pub end-long : 4096 < i → Long ≡ endOf w
   unfolding endOf
-  end-long h = rw (endOf, ← e, lt-ltb 4096 i h)
+  end-long h = sym (yes-branch (ltb longest (firstOf 10 w)) _ (lt-ltb longest (firstOf 10 w) (omega arith)))
 
   pub end-at : i ≤ 4096 → i < length w → At i ≡ endOf w
   unfolding endOf
-  end-at h k = sym (no-branch (ltb 4096 (firstOf 10 w)) _ (le-ltb 4096 (firstOf 10 w) (omega arith)) ∙ yes-branch (ltb (firstOf 10 w) (length w)) _ (lt-ltb (firstOf 10 w) (length w) (omega arith)) ∙ ap At (sym e))
+  end-at h k = sym (no-branch (ltb longest (firstOf 10 w)) _ (le-ltb longest (firstOf 10 w) (omega arith)) ∙ yes-branch (ltb (firstOf 10 w) (length w)) _ (lt-ltb (firstOf 10 w) (length w) (omega arith)) ∙ ap At (sym e))
 
   pub end-none : i ≤ 4096 → length w ≤ i → Unended ≡ endOf w
   unfolding endOf
-  end-none h k = sym (no-branch (ltb 4096 (firstOf 10 w)) _ (le-ltb 4096 (firstOf 10 w) (omega arith)) ∙ no-branch (ltb (firstOf 10 w) (length w)) _ (le-ltb (firstOf 10 w) (length w) (omega arith)))
+  end-none h k = sym (no-branch (ltb longest (firstOf 10 w)) _ (le-ltb longest (firstOf 10 w) (omega arith)) ∙ no-branch (ltb (firstOf 10 w) (length w)) _ (le-ltb (firstOf 10 w) (length w) (omega arith)))
 
 -- ---- pieces
 module _ (b : ℕ) where
@@ -101,11 +101,11 @@ module _ (b : ℕ) where
 -- ---- numbers, counted
 pub count-not : (n : ℕ) (p : List ℕ) (ps : List (List ℕ)) → spelled p ≡ Not → Fault ≡ countFrom n (eachSpelled (p ∷ ps))
 unfolding eachSpelled ahead countFrom
-count-not n p ps e = rw e
+count-not n p ps e = sym (ap (λ (r : Spelled). countFrom n (ahead r (eachSpelled ps))) e)
 
 pub count-is : (n : ℕ) (p : List ℕ) (ps : List (List ℕ)) (z : ℤ) → spelled p ≡ Is z → countFrom n (eachSpelled (p ∷ ps)) ≡ countFrom (n + 1) (eachSpelled ps)
 unfolding eachSpelled ahead countFrom
-count-is n p ps z e = rw e (go (eachSpelled ps))
+count-is n p ps z e = ap (λ (r : Spelled). countFrom n (ahead r (eachSpelled ps))) e ∙ go (eachSpelled ps)
   where
     go : (r : Option (List ℤ)) → countFrom n (ahead (Is z) r) ≡ countFrom (n + 1) r
     go none = refl

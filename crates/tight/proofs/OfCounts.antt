@@ -22,32 +22,32 @@ use Rattle.counts.proofs.room.counted.Reads as room-counted
 use Rattle.counts.proofs.room.carry.Kinds as room-carry-kinds
 use Rattle.counts.proofs.room.carry.Reads as room-carry
 
-pub one-depths-depth-under : OneAnswer depths-depth-under-kinds.ps depths-depth-under-kinds.r depths-depth-under.Post
+pub one-depths-depth-under : OneAnswer depths-depth-under-kinds.ps depths-depth-under-kinds.r depths-depth-under.Learnt
 one-depths-depth-under κs a x y v w p q = (p ∙ sym q, refl)
 
-pub one-reserve-plus : OneAnswer reserve-plus-kinds.ps reserve-plus-kinds.r reserve-plus.Post
+pub one-reserve-plus : OneAnswer reserve-plus-kinds.ps reserve-plus-kinds.r reserve-plus.Learnt
 one-reserve-plus κs a x y v w p q = (p ∙ sym q, refl)
 
-pub one-reserve-reserve-of : OneAnswer reserve-reserve-of-kinds.ps reserve-reserve-of-kinds.r reserve-reserve-of.Post
+pub one-reserve-reserve-of : OneAnswer reserve-reserve-of-kinds.ps reserve-reserve-of-kinds.r reserve-reserve-of.Learnt
 one-reserve-reserve-of κs a x y v w p q = (p ∙ sym q, refl)
 
-pub one-reserve-reserve : OneAnswer reserve-reserve-kinds.ps reserve-reserve-kinds.r reserve-reserve.Post
+pub one-reserve-reserve : OneAnswer reserve-reserve-kinds.ps reserve-reserve-kinds.r reserve-reserve.Learnt
 one-reserve-reserve κs a x y v w p q = (p ∙ sym q, refl)
 
-pub one-reserve-live-effects : OneAnswer reserve-live-effects-kinds.ps reserve-live-effects-kinds.r reserve-live-effects.Post
+pub one-reserve-live-effects : OneAnswer reserve-live-effects-kinds.ps reserve-live-effects-kinds.r reserve-live-effects.Learnt
 one-reserve-live-effects κs a x y v w p q = (p ∙ sym q, refl)
 
-pub one-room-node-room : OneAnswer room-node-room-kinds.ps room-node-room-kinds.r room-node-room.Post
+pub one-room-node-room : OneAnswer room-node-room-kinds.ps room-node-room-kinds.r room-node-room.Learnt
 one-room-node-room κs a x y v w p q = (p ∙ sym q, refl)
 
-pub one-room-slot-room : OneAnswer room-slot-room-kinds.ps room-slot-room-kinds.r room-slot-room.Post
+pub one-room-slot-room : OneAnswer room-slot-room-kinds.ps room-slot-room-kinds.r room-slot-room.Learnt
 one-room-slot-room κs a x y v w p q = (p ∙ sym q, refl)
 
-pub one-room-cell-room : OneAnswer room-cell-room-kinds.ps room-cell-room-kinds.r room-cell-room.Post
+pub one-room-cell-room : OneAnswer room-cell-room-kinds.ps room-cell-room-kinds.r room-cell-room.Learnt
 one-room-cell-room κs a x y v w p q = (p ∙ sym q, refl)
 
-pub one-room-counted : OneAnswer room-counted-kinds.ps room-counted-kinds.r room-counted.Post
+pub one-room-counted : OneAnswer room-counted-kinds.ps room-counted-kinds.r room-counted.Learnt
 one-room-counted κs a x y v w p q = (p ∙ sym q, refl)
 
-pub one-room-carry : OneAnswer room-carry-kinds.ps room-carry-kinds.r room-carry.Post
+pub one-room-carry : OneAnswer room-carry-kinds.ps room-carry-kinds.r room-carry.Learnt
 one-room-carry κs a x y v w p q = (p ∙ sym q, refl)

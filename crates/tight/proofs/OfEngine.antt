@@ -10,18 +10,18 @@ use Rattle.engine.proofs.perform.perform.Reads as perform-perform
 use Rattle.engine.proofs.tables.well_formed.Kinds as tables-well-formed-kinds
 use Rattle.engine.proofs.tables.well_formed.Reads as tables-well-formed
 
-pub one-command-refusal : OneAnswer command-refusal-kinds.ps command-refusal-kinds.r command-refusal.Post
+pub one-command-refusal : OneAnswer command-refusal-kinds.ps command-refusal-kinds.r command-refusal.Learnt
 one-command-refusal κs a x y v w p q = (p ∙ sym q, refl)
 
-pub one-command-command : OneAnswer command-command-kinds.ps command-command-kinds.r command-command.Post
+pub one-command-command : OneAnswer command-command-kinds.ps command-command-kinds.r command-command.Learnt
 one-command-command κs a x y v w p q =
     let e = p ∙ sym q in
     (λ i. record { code = e i .code; value = e i .value; runs = e i .runs }, λ i. (e i .nodes, (e i .links, (e i .values, (e i .cells, (e i .log, (tt, tt)))))))
 
-pub one-perform-perform : OneAnswer perform-perform-kinds.ps perform-perform-kinds.r perform-perform.Post
+pub one-perform-perform : OneAnswer perform-perform-kinds.ps perform-perform-kinds.r perform-perform.Learnt
 one-perform-perform κs a x y v w p q =
     let e = p ∙ sym q in
     (λ i. record { value = e i .value; runs = e i .ran .rows }, λ i. (e i .ran .after .nodes, (e i .ran .after .links, (e i .ran .after .values, (e i .cells, (e i .ran .log, (tt, (tt, tt))))))))
 
-pub one-tables-well-formed : OneAnswer tables-well-formed-kinds.ps tables-well-formed-kinds.r tables-well-formed.Post
+pub one-tables-well-formed : OneAnswer tables-well-formed-kinds.ps tables-well-formed-kinds.r tables-well-formed.Learnt
 one-tables-well-formed κs a x y v w p q = (p ∙ sym q, refl)

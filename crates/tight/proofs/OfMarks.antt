@@ -14,20 +14,20 @@ use Rattle.marks.proofs.walks.propagate.Reads as walks-propagate
 use Rattle.marks.proofs.walks.shallow_propagate.Kinds as walks-shallow-propagate-kinds
 use Rattle.marks.proofs.walks.shallow_propagate.Reads as walks-shallow-propagate
 
-pub one-effects-notify : OneAnswer effects-notify-kinds.ps effects-notify-kinds.r effects-notify.Post
+pub one-effects-notify : OneAnswer effects-notify-kinds.ps effects-notify-kinds.r effects-notify.Learnt
 one-effects-notify κs a x y v w p q = (refl, λ i. ((p ∙ sym q) i, (tt, (tt, tt))))
 
-pub one-nodes-flags : OneAnswer nodes-flags-kinds.ps nodes-flags-kinds.r nodes-flags.Post
+pub one-nodes-flags : OneAnswer nodes-flags-kinds.ps nodes-flags-kinds.r nodes-flags.Learnt
 one-nodes-flags κs a x y v w p q = (λ i. record { bits = (p ∙ sym q) i }, refl)
 
-pub one-nodes-set-flags : OneAnswer nodes-set-flags-kinds.ps nodes-set-flags-kinds.r nodes-set-flags.Post
+pub one-nodes-set-flags : OneAnswer nodes-set-flags-kinds.ps nodes-set-flags-kinds.r nodes-set-flags.Learnt
 one-nodes-set-flags κs a x y v w p q = (refl, λ i. ((p ∙ sym q) i, (tt, (tt, tt))))
 
-pub one-walks-is-valid-link : OneAnswer walks-is-valid-link-kinds.ps walks-is-valid-link-kinds.r walks-is-valid-link.Post
+pub one-walks-is-valid-link : OneAnswer walks-is-valid-link-kinds.ps walks-is-valid-link-kinds.r walks-is-valid-link.Learnt
 one-walks-is-valid-link κs a x y v w p q = (p ∙ sym q, refl)
 
-pub one-walks-propagate : OneAnswer walks-propagate-kinds.ps walks-propagate-kinds.r walks-propagate.Post
+pub one-walks-propagate : OneAnswer walks-propagate-kinds.ps walks-propagate-kinds.r walks-propagate.Learnt
 one-walks-propagate κs a x y v w p q = (refl, λ i. ((p ∙ sym q) i, (tt, (tt, tt))))
 
-pub one-walks-shallow-propagate : OneAnswer walks-shallow-propagate-kinds.ps walks-shallow-propagate-kinds.r walks-shallow-propagate.Post
+pub one-walks-shallow-propagate : OneAnswer walks-shallow-propagate-kinds.ps walks-shallow-propagate-kinds.r walks-shallow-propagate.Learnt
 one-walks-shallow-propagate κs a x y v w p q = (refl, λ i. ((p ∙ sym q) i, (tt, (tt, tt))))

@@ -33,70 +33,70 @@ use Rattle.operations.proofs.writes.set.Reads as writes-set
 use Rattle.operations.proofs.writes.add.Kinds as writes-add-kinds
 use Rattle.operations.proofs.writes.add.Reads as writes-add
 
-pub one-batches-depth : OneAnswer batches-depth-kinds.ps batches-depth-kinds.r batches-depth.Post
+pub one-batches-depth : OneAnswer batches-depth-kinds.ps batches-depth-kinds.r batches-depth.Learnt
 one-batches-depth κs a x y v w p q = (p ∙ sym q, refl)
 
-pub one-batches-start-batch : OneAnswer batches-start-batch-kinds.ps batches-start-batch-kinds.r batches-start-batch.Post
+pub one-batches-start-batch : OneAnswer batches-start-batch-kinds.ps batches-start-batch-kinds.r batches-start-batch.Learnt
 one-batches-start-batch κs a x y v w p q = (refl, λ i. ((p ∙ sym q) i, tt))
 
-pub one-batches-end-batch : OneAnswer batches-end-batch-kinds.ps batches-end-batch-kinds.r batches-end-batch.Post
+pub one-batches-end-batch : OneAnswer batches-end-batch-kinds.ps batches-end-batch-kinds.r batches-end-batch.Learnt
 one-batches-end-batch κs a x y v w p q =
     let e = p ∙ sym q in
     (λ i. e i .rows, λ i. (e i .after .nodes, (e i .after .links, (e i .after .values, (tt, (e i .log, tt))))))
 
-pub one-emptying-empty : OneAnswer emptying-empty-kinds.ps emptying-empty-kinds.r emptying-empty.Post
+pub one-emptying-empty : OneAnswer emptying-empty-kinds.ps emptying-empty-kinds.r emptying-empty.Learnt
 one-emptying-empty κs a x y v w p q =
     let e = p ∙ sym q in
     (λ i. e i .code, λ i. (e i .nodes, (e i .links, (e i .values, (e i .cells, tt)))))
 
-pub one-log-number-word : OneAnswer log-number-word-kinds.ps log-number-word-kinds.r log-number-word.Post
+pub one-log-number-word : OneAnswer log-number-word-kinds.ps log-number-word-kinds.r log-number-word.Learnt
 one-log-number-word κs a x y v w p q = (p ∙ sym q, refl)
 
-pub one-log-write-row : OneAnswer log-write-row-kinds.ps log-write-row-kinds.r log-write-row.Post
+pub one-log-write-row : OneAnswer log-write-row-kinds.ps log-write-row-kinds.r log-write-row.Learnt
 one-log-write-row κs a x y v w p q =
     let e1 = p .0 ∙ sym (q .0) in
     let e2 = p .1 ∙ sym (q .1) in
     (λ i. e1 i, λ i. (e2 i, (tt, (tt, tt))))
 
-pub one-making-new-signal : OneAnswer making-new-signal-kinds.ps making-new-signal-kinds.r making-new-signal.Post
+pub one-making-new-signal : OneAnswer making-new-signal-kinds.ps making-new-signal-kinds.r making-new-signal.Learnt
 one-making-new-signal κs a x y v w p q =
     let e = (p []) ∙ sym (q []) in
     (λ i. e i .number, λ i. (e i .after .nodes, (e i .after .values, (e i .cells, (tt, tt)))))
 
-pub one-making-new-computed : OneAnswer making-new-computed-kinds.ps making-new-computed-kinds.r making-new-computed.Post
+pub one-making-new-computed : OneAnswer making-new-computed-kinds.ps making-new-computed-kinds.r making-new-computed.Learnt
 one-making-new-computed κs a x y v w p q =
     let e = (p []) ∙ sym (q []) in
     (λ i. e i .number, λ i. (e i .after .nodes, (e i .after .values, (e i .cells, (tt, tt)))))
 
-pub one-making-new-scope : OneAnswer making-new-scope-kinds.ps making-new-scope-kinds.r making-new-scope.Post
+pub one-making-new-scope : OneAnswer making-new-scope-kinds.ps making-new-scope-kinds.r making-new-scope.Learnt
 one-making-new-scope κs a x y v w p q =
     let e = p ∙ sym q in
     (λ i. e i .number, λ i. (e i .after .nodes, (e i .after .links, (e i .after .values, (e i .cells, (tt, tt))))))
 
-pub one-making-new-effect : OneAnswer making-new-effect-kinds.ps making-new-effect-kinds.r making-new-effect.Post
+pub one-making-new-effect : OneAnswer making-new-effect-kinds.ps making-new-effect-kinds.r making-new-effect.Learnt
 one-making-new-effect κs a x y v w p q =
     let e = p ∙ sym q in
     (λ i. record { number = e i .number; rows = e i .ran .rows }, λ i. (e i .ran .after .nodes, (e i .ran .after .links, (e i .ran .after .values, (e i .cells, (e i .ran .log, (tt, (tt, tt))))))))
 
-pub one-runs-end-run : OneAnswer runs-end-run-kinds.ps runs-end-run-kinds.r runs-end-run.Post
+pub one-runs-end-run : OneAnswer runs-end-run-kinds.ps runs-end-run-kinds.r runs-end-run.Learnt
 one-runs-end-run κs a x y v w p q = (refl, λ i. ((p ∙ sym q) i, (tt, tt)))
 
-pub one-runs-run : OneAnswer runs-run-kinds.ps runs-run-kinds.r runs-run.Post
+pub one-runs-run : OneAnswer runs-run-kinds.ps runs-run-kinds.r runs-run.Learnt
 one-runs-run κs a x y v w p q =
     let e = p ∙ sym q in
     (λ i. e i .rows, λ i. (e i .after .nodes, (e i .after .links, (e i .after .values, (tt, (e i .log, (tt, tt)))))))
 
-pub one-runs-flush : OneAnswer runs-flush-kinds.ps runs-flush-kinds.r runs-flush.Post
+pub one-runs-flush : OneAnswer runs-flush-kinds.ps runs-flush-kinds.r runs-flush.Learnt
 one-runs-flush κs a x y v w p q =
     let e = p ∙ sym q in
     (λ i. e i .rows, λ i. (e i .after .nodes, (e i .after .links, (e i .after .values, (tt, (e i .log, tt))))))
 
-pub one-writes-set : OneAnswer writes-set-kinds.ps writes-set-kinds.r writes-set.Post
+pub one-writes-set : OneAnswer writes-set-kinds.ps writes-set-kinds.r writes-set.Learnt
 one-writes-set κs a x y v w p q =
     let e = p ∙ sym q in
     (λ i. e i .rows, λ i. (e i .after .nodes, (e i .after .links, (e i .after .values, (tt, (e i .log, (tt, (tt, tt))))))))
 
-pub one-writes-add : OneAnswer writes-add-kinds.ps writes-add-kinds.r writes-add.Post
+pub one-writes-add : OneAnswer writes-add-kinds.ps writes-add-kinds.r writes-add.Learnt
 one-writes-add κs a x y v w p q =
     let e = p ∙ sym q in
     (λ i. e i .rows, λ i. (e i .after .nodes, (e i .after .links, (e i .after .values, (tt, (e i .log, (tt, (tt, tt))))))))

@@ -26,38 +26,38 @@ use Rattle.refusals.proofs.naming.gone_node.Reads as naming-gone-node
 use Rattle.refusals.proofs.table.refusal.Kinds as table-refusal-kinds
 use Rattle.refusals.proofs.table.refusal.Reads as table-refusal
 
-pub one-asks-asks-of : OneAnswer asks-asks-of-kinds.ps asks-asks-of-kinds.r asks-asks-of.Post
+pub one-asks-asks-of : OneAnswer asks-asks-of-kinds.ps asks-asks-of-kinds.r asks-asks-of.Learnt
 one-asks-asks-of κs a x y v w p q = (p ∙ sym q, refl)
 
-pub one-asks-cells-from : OneAnswer asks-cells-from-kinds.ps asks-cells-from-kinds.r asks-cells-from.Post
+pub one-asks-cells-from : OneAnswer asks-cells-from-kinds.ps asks-cells-from-kinds.r asks-cells-from.Learnt
 one-asks-cells-from κs a x y v w p q = (p ∙ sym q, refl)
 
-pub one-batching-wrong-depth : OneAnswer batching-wrong-depth-kinds.ps batching-wrong-depth-kinds.r batching-wrong-depth.Post
+pub one-batching-wrong-depth : OneAnswer batching-wrong-depth-kinds.ps batching-wrong-depth-kinds.r batching-wrong-depth.Learnt
 one-batching-wrong-depth κs a x y v w p q = (p ∙ sym q, refl)
 
-pub one-batching-few-rows : OneAnswer batching-few-rows-kinds.ps batching-few-rows-kinds.r batching-few-rows.Post
+pub one-batching-few-rows : OneAnswer batching-few-rows-kinds.ps batching-few-rows-kinds.r batching-few-rows.Learnt
 one-batching-few-rows κs a x y v w p q = (p ∙ sym q, refl)
 
-pub one-commands-number : OneAnswer commands-number-kinds.ps commands-number-kinds.r commands-number.Post
+pub one-commands-number : OneAnswer commands-number-kinds.ps commands-number-kinds.r commands-number.Learnt
 one-commands-number κs a x y v w p q = (p ∙ sym q, refl)
 
-pub one-commands-command-of : OneAnswer commands-command-of-kinds.ps commands-command-of-kinds.r commands-command-of.Post
+pub one-commands-command-of : OneAnswer commands-command-of-kinds.ps commands-command-of-kinds.r commands-command-of.Learnt
 one-commands-command-of κs a x y v w p q = (p ∙ sym q, refl)
 
-pub one-making-bad-formula : OneAnswer making-bad-formula-kinds.ps making-bad-formula-kinds.r making-bad-formula.Post
+pub one-making-bad-formula : OneAnswer making-bad-formula-kinds.ps making-bad-formula-kinds.r making-bad-formula.Learnt
 one-making-bad-formula κs a x y v w p q = (p ∙ sym q, refl)
 
-pub one-making-making : OneAnswer making-making-kinds.ps making-making-kinds.r making-making.Post
+pub one-making-making : OneAnswer making-making-kinds.ps making-making-kinds.r making-making.Learnt
 one-making-making κs a x y v w p q = (p ∙ sym q, refl)
 
-pub one-naming-unknown : OneAnswer naming-unknown-kinds.ps naming-unknown-kinds.r naming-unknown.Post
+pub one-naming-unknown : OneAnswer naming-unknown-kinds.ps naming-unknown-kinds.r naming-unknown.Learnt
 one-naming-unknown κs a x y v w p q = (p ∙ sym q, refl)
 
-pub one-naming-wrong-node : OneAnswer naming-wrong-node-kinds.ps naming-wrong-node-kinds.r naming-wrong-node.Post
+pub one-naming-wrong-node : OneAnswer naming-wrong-node-kinds.ps naming-wrong-node-kinds.r naming-wrong-node.Learnt
 one-naming-wrong-node κs a x y v w p q = (p ∙ sym q, refl)
 
-pub one-naming-gone-node : OneAnswer naming-gone-node-kinds.ps naming-gone-node-kinds.r naming-gone-node.Post
+pub one-naming-gone-node : OneAnswer naming-gone-node-kinds.ps naming-gone-node-kinds.r naming-gone-node.Learnt
 one-naming-gone-node κs a x y v w p q = (p ∙ sym q, refl)
 
-pub one-table-refusal : OneAnswer table-refusal-kinds.ps table-refusal-kinds.r table-refusal.Post
+pub one-table-refusal : OneAnswer table-refusal-kinds.ps table-refusal-kinds.r table-refusal.Learnt
 one-table-refusal κs a x y v w p q = (p ∙ sym q, refl)

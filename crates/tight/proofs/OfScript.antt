@@ -4,7 +4,7 @@ use Rattle.tight.specs.OneAnswer.{OneAnswer}
 use Rattle.script.proofs.turn.Kinds as turn-kinds
 use Rattle.script.proofs.turn.Reads as turn
 
-pub one-turn : OneAnswer turn-kinds.ps turn-kinds.r turn.Post
+pub one-turn : OneAnswer turn-kinds.ps turn-kinds.r turn.Learnt
 one-turn κs a x y v w p q =
     let e = p ∙ sym q in
     (λ i. e i .turn, λ i. (e i .after .nodes, (e i .after .links, (e i .after .values, (e i .after .cells, (e i .after .log, (e i .words, (e i .out, (tt, (tt, tt))))))))))

@@ -18,32 +18,32 @@ use Rattle.text.proofs.numbers.magnitude.Reads as numbers-magnitude
 use Rattle.text.proofs.numbers.number.Kinds as numbers-number-kinds
 use Rattle.text.proofs.numbers.number.Reads as numbers-number
 
-pub one-answers-put-answer : OneAnswer answers-put-answer-kinds.ps answers-put-answer-kinds.r answers-put-answer.Post
+pub one-answers-put-answer : OneAnswer answers-put-answer-kinds.ps answers-put-answer-kinds.r answers-put-answer.Learnt
 one-answers-put-answer κs a x y v w p q =
     let e = p ∙ sym q in
     (λ i. e i .next, λ i. (e i .held, (tt, (tt, (tt, (tt, tt))))))
 
-pub one-answers-put-unreadable : OneAnswer answers-put-unreadable-kinds.ps answers-put-unreadable-kinds.r answers-put-unreadable.Post
+pub one-answers-put-unreadable : OneAnswer answers-put-unreadable-kinds.ps answers-put-unreadable-kinds.r answers-put-unreadable.Learnt
 one-answers-put-unreadable κs a x y v w p q =
     let e = p ∙ sym q in
     (λ i. e i .next, λ i. (e i .held, tt))
 
-pub one-lines-line-end : OneAnswer lines-line-end-kinds.ps lines-line-end-kinds.r lines-line-end.Post
+pub one-lines-line-end : OneAnswer lines-line-end-kinds.ps lines-line-end-kinds.r lines-line-end.Learnt
 one-lines-line-end κs a x y v w p q = (p ∙ sym q, refl)
 
-pub one-lines-command-line : OneAnswer lines-command-line-kinds.ps lines-command-line-kinds.r lines-command-line.Post
+pub one-lines-command-line : OneAnswer lines-command-line-kinds.ps lines-command-line-kinds.r lines-command-line.Learnt
 one-lines-command-line κs a x y v w p q = (p ∙ sym q, refl)
 
-pub one-lines-args-line : OneAnswer lines-args-line-kinds.ps lines-args-line-kinds.r lines-args-line.Post
+pub one-lines-args-line : OneAnswer lines-args-line-kinds.ps lines-args-line-kinds.r lines-args-line.Learnt
 one-lines-args-line κs a x y v w p q = (p ∙ sym q, refl)
 
-pub one-lines-pair : OneAnswer lines-pair-kinds.ps lines-pair-kinds.r lines-pair.Post
+pub one-lines-pair : OneAnswer lines-pair-kinds.ps lines-pair-kinds.r lines-pair.Learnt
 one-lines-pair κs a x y v w p q =
     let e = p ∙ sym q in
     (λ i. e i .found, λ i. (tt, (e i .words, tt)))
 
-pub one-numbers-magnitude : OneAnswer numbers-magnitude-kinds.ps numbers-magnitude-kinds.r numbers-magnitude.Post
+pub one-numbers-magnitude : OneAnswer numbers-magnitude-kinds.ps numbers-magnitude-kinds.r numbers-magnitude.Learnt
 one-numbers-magnitude κs a x y v w p q = (p ∙ sym q, refl)
 
-pub one-numbers-number : OneAnswer numbers-number-kinds.ps numbers-number-kinds.r numbers-number.Post
+pub one-numbers-number : OneAnswer numbers-number-kinds.ps numbers-number-kinds.r numbers-number.Learnt
 one-numbers-number κs a x y v w p q = (p ∙ sym q, refl)

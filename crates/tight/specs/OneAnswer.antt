@@ -1,4 +1,4 @@
--- A promise has one answer. `Post` of a function's `Reads` is its contract, as the checker reads the clauses, and `ps` and `r` of its `Kinds` are its signature.
+-- A promise has one answer. `Learnt` of a function's `Reads` is what its contract tells a caller, as the checker reads the clauses; `ps` and `r` of its `Kinds` are its signature.
 use mathlib.Core.Path.{_≡_}
 use mathlib.Core.List.{List}
 use Prim.Native.Nat.{ℕ}

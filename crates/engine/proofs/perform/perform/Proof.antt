@@ -5,7 +5,7 @@ use mir.Val.{toZ, ofZ}
 use mir.Facts.{toZ-ofZ}
 use mathlib.Core.Path.{_≡_, ap, _∙_}
 use Rattle.engine.specs.Perform.{performed}
-use Rattle.engine.proofs.EngineLaws.{numbered-by}
+use Rattle.engine.proofs.EngineLaws.{numbered-by, read-by}
 use borrow.Author.Needs.{needs}
 use Rattle.engine.proofs.perform.perform.Statement.{statement}
 use Rattle.engine.proofs.perform.perform.Tie as tie
@@ -241,11 +241,10 @@ same-length-29 : tie.Need-same-length-29
 same-length-29 c = search needs
 
 returns-7 : tie.Need-returns-7
-unfolding performed
 returns-7 c =
     let n : toZ w64 (ofZ w64 (c .before .before .before .before .before .before .before .before .before .before .before .before .before .command6 .given .0 .0)) ≡ c .before .before .before .before .before .before .before .before .before .before .before .before .before .command6 .given .0 .0 = toZ-ofZ (search needs) in
     let v : toZ w64 (ofZ w64 (c .before .before .before .before .before .before .read .result .word)) ≡ c .before .before .before .before .before .before .read .result .word = toZ-ofZ (search needs) in
-    rw (c .before .before .before .before .before .before .before .before .before .before .before .before .before .command6 .given .1, v, ← rw n at (c .before .before .before .before .before .before .before .node-of3 .ensures), ← c .before .before .before .before .before .before .read .ensures)
+    rw (c .before .before .before .before .before .before .before .before .before .before .before .before .before .command6 .given .1, v) (read-by _ _ _ _ _ (rw n at (c .before .before .before .before .before .before .before .node-of3 .ensures)) (c .before .before .before .before .before .before .read .ensures))
 
 same-length-30 : tie.Need-same-length-30
 same-length-30 c = search needs

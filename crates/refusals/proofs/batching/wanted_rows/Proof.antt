@@ -68,17 +68,11 @@ returns-4 c = rw
 
 returns-5 : tie.Need-returns-5
 unfolding wanted
-returns-5 c = rw (
-  c .before .enum-told5 .given .1,
-  ← c .flush-rows .ensures,
-)
+returns-5 c = rw (c .before .enum-told5 .given .1) (c .flush-rows .ensures)
 
 returns-6 : tie.Need-returns-6
 unfolding wanted
-returns-6 c = rw (
-  c .before .enum-told6 .given .1,
-  ← c .flush-rows2 .ensures,
-)
+returns-6 c = rw (c .before .enum-told6 .given .1) (c .flush-rows2 .ensures)
 
 returns-7 : tie.Need-returns-7
 unfolding wanted
@@ -97,10 +91,7 @@ returns-9 c = rw
 
 returns-10 : tie.Need-returns-10
 unfolding wanted
-returns-10 c = rw (
-  c .before .enum-told10 .given .1,
-  ← c .flush-rows3 .ensures,
-)
+returns-10 c = rw (c .before .enum-told10 .given .1) (c .flush-rows3 .ensures)
 
 returns-11 : tie.Need-returns-11
 unfolding wanted

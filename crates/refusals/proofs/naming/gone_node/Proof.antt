@@ -1,8 +1,9 @@
 -- `refusals::naming::gone_node` meets its contract. Assumes nothing.
-use mathlib.Core.Path.{_≡_, _∙_}
+use mathlib.Core.Path.{_≡_, ap, _∙_}
 use mir.Syntax.{w64}
 use mir.Val.{toZ, ofZ}
 use mir.Facts.{toZ-ofZ}
+use Rattle.meaning.specs.Refusals.{isGone}
 use Rattle.refusals.proofs.NamingLaws.{or-first, or-second}
 use Rattle.refusals.proofs.AskLaws.{gone-row}
 use Rattle.refusals.specs.Sight.{nodesAlone}
@@ -37,7 +38,7 @@ returns-2 c =
     let a = c .before .before .before .before .before .before .before .args in
     let n : toZ w64 (ofZ w64 (asks-of .result .node)) ≡ asks-of .result .node = toZ-ofZ (search needs) in
     let o : toZ w64 (ofZ w64 (asks-of .result .owner)) ≡ asks-of .result .owner = toZ-ofZ (search needs) in
-    or-second _ _ (rw n at (gone-named .ensures)) (if1 .left) (rw o at (is-gone .ensures)) ∙ gone-row (nodesAlone (a .nodes .now)) (a .words .now) (asks-of .result) (asks-of .ensures)
+    or-second _ _ (rw n at (gone-named .ensures)) (if1 .left) (is-gone .ensures ∙ ap (isGone (nodesAlone (a .nodes .now))) o) ∙ gone-row (nodesAlone (a .nodes .now)) (a .words .now) (asks-of .result) (asks-of .ensures)
 
 pub gone-node-spec : {M : Type 1} → statement M
 gone-node-spec =
