@@ -31,3 +31,7 @@ pub mod Batch
 pub mod Check
 pub mod Evaluation
 pub mod Signals
+pub mod NewRow
+pub mod NewNode
+pub mod Makings
+pub mod Ringed

@@ -38,31 +38,31 @@ use Rattle.structure.proofs.Dispose.{purge-shows}
 
 -- ---- values
 module _ (W : List ℤ) (n : ℕ) (v : Value) (h : n * 4 + 4 ≤ length W) where
-  current-at : (m : ℕ) (f : ℕ → Value) → ((x : ℕ) → currentOf W x ≡ f x) → currentOf (setCurrent W n v) m ≡ up f n v m
+  pub current-at : (m : ℕ) (f : ℕ → Value) → ((x : ℕ) → currentOf W x ≡ f x) → currentOf (setCurrent W n v) m ≡ up f n v m
   unfolding currentOf setCurrent valueAt setValue
   current-at m f k = up-by f n v (λ (z : Value). value (getD (set W (n * 2 * 2) (v .word)) (m * 2 * 2) (pos 0)) ≡ z) m
       (λ e. ap (λ (x : ℕ). value (getD (set W (n * 2 * 2) (v .word)) (x * 2 * 2) (pos 0))) e ∙ ap value (getD-set-same W (n * 2 * 2) (v .word) (pos 0) (omega arith)))
       (λ e. ap value (getD-set-other W (n * 2 * 2) (m * 2 * 2) (v .word) (pos 0) (λ q. e (omega arith))) ∙ k m)
 
-  current-kept : (m : ℕ) → pendingOf (setCurrent W n v) m ≡ pendingOf W m
+  pub current-kept : (m : ℕ) → pendingOf (setCurrent W n v) m ≡ pendingOf W m
   unfolding pendingOf setCurrent valueAt setValue
   current-kept m = ap value (getD-set-other W (n * 2 * 2) ((m * 2 + 1) * 2) (v .word) (pos 0) (λ q. omega arith))
 
-  pending-at : (m : ℕ) (f : ℕ → Value) → ((x : ℕ) → pendingOf W x ≡ f x) → pendingOf (setPending W n v) m ≡ up f n v m
+  pub pending-at : (m : ℕ) (f : ℕ → Value) → ((x : ℕ) → pendingOf W x ≡ f x) → pendingOf (setPending W n v) m ≡ up f n v m
   unfolding pendingOf setPending valueAt setValue
   pending-at m f k = up-by f n v (λ (z : Value). value (getD (set W ((n * 2 + 1) * 2) (v .word)) ((m * 2 + 1) * 2) (pos 0)) ≡ z) m
       (λ e. ap (λ (x : ℕ). value (getD (set W ((n * 2 + 1) * 2) (v .word)) ((x * 2 + 1) * 2) (pos 0))) e ∙ ap value (getD-set-same W ((n * 2 + 1) * 2) (v .word) (pos 0) (omega arith)))
       (λ e. ap value (getD-set-other W ((n * 2 + 1) * 2) ((m * 2 + 1) * 2) (v .word) (pos 0) (λ q. e (omega arith))) ∙ k m)
 
-  pending-kept : (m : ℕ) → currentOf (setPending W n v) m ≡ currentOf W m
+  pub pending-kept : (m : ℕ) → currentOf (setPending W n v) m ≡ currentOf W m
   unfolding currentOf setPending valueAt setValue
   pending-kept m = ap value (getD-set-other W ((n * 2 + 1) * 2) (m * 2 * 2) (v .word) (pos 0) (λ q. omega arith))
 
-  current-long : length (setCurrent W n v) ≡ length W
+  pub current-long : length (setCurrent W n v) ≡ length W
   unfolding setCurrent setValue
   current-long = length-set W (n * 2 * 2) (v .word)
 
-  pending-long : length (setPending W n v) ≡ length W
+  pub pending-long : length (setPending W n v) ≡ length W
   unfolding setPending setValue
   pending-long = length-set W ((n * 2 + 1) * 2) (v .word)
 

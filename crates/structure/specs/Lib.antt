@@ -2,3 +2,4 @@ pub mod Chains
 pub mod Rep
 pub mod Reading
 pub mod Alike
+pub mod Logged
