@@ -35,3 +35,10 @@ pub mod NewRow
 pub mod NewNode
 pub mod Makings
 pub mod Ringed
+pub mod LogRows
+pub mod Runs
+pub mod Flushes
+pub mod NewEffect
+pub mod Performs
+pub mod Commands
+pub mod Histories

@@ -181,13 +181,17 @@ module _ (ran : List ℕ) (x : State) (C : List ℤ) (s : St) (n : ℕ) (w : Hel
   unfolding begunFirst named bit
   begun-first-sees = flag-shows ran t (x .values) C s n w r low 5 f5 refl refl
 
-  pub begun-sees : Sees ran (begun x n) C (setFl (rewind (withCycle s (raisedTo (s .cycle))) n) n f5)
-  unfolding begun begunFirst named bit
-  begun-sees =
+  -- a new cycle, and no dependency is reached yet; f is the byte of F
+  pub begun-by : (f : ℕ) (F : Named) → f ≡ byte F → named (f % 256) ≡ F → Sees ran (state (setFlags (setNode (x .nodes) n DEPS-TAIL 0) n f) (raised (x .links)) (x .values)) C (setFl (rewind (withCycle s (raisedTo (s .cycle))) n) n F)
+  begun-by f F p q =
       let s₁ : St = withCycle s (raisedTo (s .cycle)) in
       let w₁ : Held s₁ = record { lists = w .lists; fit = w .fit } in
       let r₁ : Shows ran (tab (x .nodes) (raised (x .links))) (x .values) C s₁ = cycle-shows ran t (x .values) C s r in
-      flag-shows ran (tab (setNode (x .nodes) n DEPS-TAIL 0) (raised (x .links))) (x .values) C (rewind s₁ n) n (held-rewind s₁ n w₁) (rewind-shows ran (tab (x .nodes) (raised (x .links))) (x .values) C s₁ n w₁ r₁ low) low 5 f5 refl refl
+      flag-shows ran (tab (setNode (x .nodes) n DEPS-TAIL 0) (raised (x .links))) (x .values) C (rewind s₁ n) n (held-rewind s₁ n w₁) (rewind-shows ran (tab (x .nodes) (raised (x .links))) (x .values) C s₁ n w₁ r₁ low) low f F p q
+
+  pub begun-sees : Sees ran (begun x n) C (setFl (rewind (withCycle s (raisedTo (s .cycle))) n) n f5)
+  unfolding begun begunFirst named bit
+  begun-sees = begun-by 5 f5 refl refl
 
   -- after it: n has the flags 5
   pub finished-first-sees : (v : Value) → s .fl n ≡ f5 → Sees ran (finishedFirst x n v) C (setFl (setSto s n v) n f1)
