@@ -26,7 +26,7 @@ words-long (r ∷ rs) = let e = words-long rs in omega arith
 
 words-join : (rs qs : List Row) → wordsOf (rs ++ qs) ≡ wordsOf rs ++ wordsOf qs
 words-join [] qs = refl
-words-join (r ∷ rs) qs = ap (λ (z : List ℤ). pos (r .who) ∷ r .worth .word ∷ z) (words-join rs qs)
+words-join (r ∷ rs) qs = ap (λ (z : List ℤ). wordsOf (r ∷ []) ++ z) (words-join rs qs)
 
 -- a number of a node is written as it is
 pub number-is : (e : ℕ) → e < 2 ^ 63 → numberWord e ≡ pos e
