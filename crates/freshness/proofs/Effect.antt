@@ -274,7 +274,7 @@ module _ (g : Given) (st : Static g) (p : ℕ → Value) (ρ : Records) (e : ℕ
       let f₁ : Frame g (Near g st e) e s s₁ = frame-flags g (Near g st e) e s s₁ refl refl refl refl refl refl
       (λ m z. (up-other (s .done) e [] m (λ q. z (inr q)), up-other (s .rest) e (s .done e ++ s .rest e) m (λ q. z (inr q))))
       (λ m z q. up-other (s .fl) e f6 m (λ x. z (inr x)))
-      (λ m q. up-other (s .fl) e f6 m (λ x. clash pd (ap (λ (z : Named). z .pending) (sym (ap (s .fl) x) ∙ q))) ∙ q) in
+      (λ m q. up-other (s .fl) e f6 m (λ x. clash pd (ap (λ (z : Named). z .pending) (sym (ap (s .fl) x) ∙ q))) ∙ q) (λ m z q. refl) in
       let all : s₁ .rest e ≡ s .done e = up-same (s .rest) e (s .done e ++ s .rest e) ∙ ap (λ (x : List ℕ). s .done e ++ x) (l .tail) ∙ append-nil (s .done e) in
       let few : length (readLinks (g .kind) (s .dep) (s₁ .rest e)) ≤ reads-of g st e = subst (λ (x : List ℕ). length (readLinks (g .kind) (s .dep) x) ≤ reads-of g st e) (sym all) (l .few) in
       let ev : Evaluating s₁ e (s .cycle + 1) [] =

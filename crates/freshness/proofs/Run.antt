@@ -246,7 +246,7 @@ module _ (g : Given) (st : Static g) (p : ℕ → Value) (ρ : Records) (e : ℕ
     checks : s .cycle + much < limit → Checks g st p ρ (Run g st e) much s′ e c
     checks fits =
         let k = size-is g st (Run g st e) s′ pop in
-        check-fine g st p ρ (Run g st e) K (fresh K) (fresh-inside g st K) (inFresh K) limit e he (omega arith) (run-above g st e he ke) (run-apart g st e he ke s q i is a reads pd)
+        check-fine g st p ρ (Run g st e) K (fresh K) (fresh-inside g st K) (inFresh K) limit e he (omega arith) (run-above g st e he ke) (run-apart g st e he ke)
         (λ x n lt xi xo r xv f. sound g st p ρ K (Run g st e) x n xi xo (omega arith) r (λ m z y. above m z y) (omega arith) xv f) s′ pop (popped-open g st e he ke s q i is) (has-deps g st e he ke s q i is a reads pd) v′ fits
       where
         above : {n : ℕ} (m : ℕ) → Run g st e m → readable (g .kind m) ≡ true → n < m

@@ -231,7 +231,7 @@ module _ (g : Given) (st : Static g) (p : ℕ → Value) (ρ : Records) (k : ℕ
         let f₁ : Frame g (Low g (suc n)) n s s₁ = frame-flags g (Low g (suc n)) n s s₁ refl refl refl refl refl refl
         (λ m z. (up-other (s .done) n [] m (off m z), up-other (s .rest) n (s .done n ++ s .rest n) m (off m z)))
         (λ m z q. flags m (off m z))
-        (λ m q. flags m (λ x. clash un (ap unclean (sym (ap (s .fl) x) ∙ q))) ∙ q) in
+        (λ m q. flags m (λ x. clash un (ap unclean (sym (ap (s .fl) x) ∙ q))) ∙ q) (λ m z q. refl) in
         let r = i .rests n h (n-off g st k fr frs X s n i o h ab le (ap readable kn)) in
         let all : s₁ .rest n ≡ s .done n = up-same (s .rest) n (s .done n ++ s .rest n) ∙ ap (λ (x : List ℕ). s .done n ++ x) (r .tail) ∙ append-nil (s .done n) in
         let few : length (readLinks (g .kind) (s .dep) (s₁ .rest n)) ≤ reads-of g st n = subst (λ (x : List ℕ). length (readLinks (g .kind) (s .dep) x) ≤ reads-of g st n) (sym all) (r .few) in
@@ -259,7 +259,7 @@ module _ (g : Given) (st : Static g) (p : ℕ → Value) (ρ : Records) (k : ℕ
         let i₁ : Inside g (also X n) s₁ = flags-inside g (also X n) s n (wide g st k fr frs X s n i o h ab le) (inr refl) f5 (λ q. refl) in
         let f₁ : Frame g (Low g (suc n)) n s s₁ = frame-flags g (Low g (suc n)) n s s₁ refl refl refl refl refl refl (λ m z. (refl, refl))
         (λ m z q. flags m (off m z))
-        (λ m q. flags m (λ x. clash (ap (λ (z : Named). z .mutable) q) (ap (λ (z : Named). z .mutable) (ap (s .fl) x ∙ fl))) ∙ q) in
+        (λ m q. flags m (λ x. clash (ap (λ (z : Named). z .mutable) q) (ap (λ (z : Named). z .mutable) (ap (s .fl) x ∙ fl))) ∙ q) (λ m z q. refl) in
         let few : length (readLinks (g .kind) (s .dep) (s .rest n)) ≤ reads-of g st n = subst (λ (x : List ℕ). length (readLinks (g .kind) (s .dep) x) ≤ reads-of g st n) (sym e′) (omega arith) in
         let ev : Evaluating s₁ n (s .cycle) [] =
         subst (λ (d : List ℕ). Evaluated d (s .rest n) (s .dep) (s .ver) (s .cycle) []) (sym e)

@@ -11,10 +11,12 @@ use Rattle.primitive.specs.declared.values.Value.{Value}
 use Rattle.formula.specs.Trees.{names}
 use Rattle.meaning.specs.State.{St, Kind, signal, computed, effect, scope, Row, readable, rank, deps, f1}
 use Rattle.meaning.specs.Setters.{withCycle, withSto, withPend, withDepth, withLog, withStuck}
+use Rattle.meaning.specs.Links.{cut, purge}
 use Rattle.meaning.specs.Reserve.{reserveOf}
 use Rattle.meaning.specs.WellFormed.{In, readLinks, clean}
 use Rattle.meaning.proofs.Laws.{clash, either, none-some}
 use Rattle.meaning.proofs.Members.{none-nil, nil-none, append-is-nil, reads-agree}
+use Rattle.meaning.proofs.Rings.{purge-ring}
 use Rattle.meaning.proofs.Still.{Given}
 use Rattle.meaning.proofs.Binding.{SameReads, reads-lists}
 use Rattle.meaning.proofs.Inside.{Set, Static, AtRest, Slots, Inside, Under}
@@ -34,6 +36,14 @@ others g X s i c f p d l b = record {
   effects = i .effects;
   rests = i .rests;
 }
+
+-- ---- the first ring stores no value
+abbrev Stores : St → St → Type 0
+Stores s t = t .sto ≡ s .sto
+
+pub purge-sto : (s : St) (u : ℕ) → purge s u .sto ≡ s .sto
+unfolding cut
+purge-sto = purge-ring Stores (record { same = λ s. refl; then = λ s t x p q. q ∙ p; stops = λ s. refl; cuts = λ s l. refl; bares = λ s x. refl; stales = λ s d. refl })
 
 -- ---- computeds of a rank below b
 abbrev pub Low : Given → ℕ → Set
@@ -55,6 +65,8 @@ pub record Frame (g : Given) (N : Set) (c : ℕ) (s t : St) : Type 0 where
   pub links : (l : ℕ) → s .live l ≡ true → (N (s .sub l) → ⊥) → (t .live l ≡ true) × (t .dep l ≡ s .dep l) × (t .sub l ≡ s .sub l)
   pub held : (l : ℕ) → s .live l ≡ true → (N (s .sub l) → ⊥) → s .fl (s .dep l) ≡ f1 → t .fl (s .dep l) ≡ f1
   pub pending : (m : ℕ) → (N m → ⊥) → (g .kind m ≡ signal → ⊥) → t .fl m .pending ≡ s .fl m .pending
+  pub calm : (m : ℕ) → (N m → ⊥) → (g .kind m ≡ signal → ⊥) → s .fl m .pending ≡ false → t .fl m ≡ s .fl m
+  pub sto : (m : ℕ) → (N m → ⊥) → (g .kind m ≡ signal → ⊥) → t .sto m ≡ s .sto m
   pub soiled : (u : ℕ) → (N u → ⊥) → (g .kind u ≡ signal → ⊥) → s .fl u .dirty ≡ false → t .fl u .dirty ≡ true → Soiled g c s u
   pub stuck : t .stuck ≡ s .stuck
 
@@ -62,20 +74,22 @@ module _ (g : Given) (N : Set) (c : ℕ) where
   -- a step that moves no link
   pub frame-flags : (s t : St) → t .subs ≡ s .subs → t .gone ≡ s .gone → t .live ≡ s .live → t .dep ≡ s .dep → t .sub ≡ s .sub → t .stuck ≡ s .stuck
       → ((m : ℕ) → (N m → ⊥) → (t .done m ≡ s .done m) × (t .rest m ≡ s .rest m)) → ((m : ℕ) → (N m → ⊥) → (g .kind m ≡ signal → ⊥) → t .fl m ≡ s .fl m)
-      → ((m : ℕ) → s .fl m ≡ f1 → t .fl m ≡ f1) → Frame g N c s t
-  frame-flags s t e₁ e₂ e₃ e₄ e₅ e₆ ls fs cl = record {
+      → ((m : ℕ) → s .fl m ≡ f1 → t .fl m ≡ f1) → ((m : ℕ) → (N m → ⊥) → (g .kind m ≡ signal → ⊥) → t .sto m ≡ s .sto m) → Frame g N c s t
+  frame-flags s t e₁ e₂ e₃ e₄ e₅ e₆ ls fs cl vs = record {
     lists = ls;
     subs = λ m h. ap (λ (x : ℕ → List ℕ). x m) e₁;
     gone = λ m h. ap (λ (x : ℕ → Bool). x m) e₂;
     links = λ l a h. (ap (λ (x : ℕ → Bool). x l) e₃ ∙ a, ap (λ (x : ℕ → ℕ). x l) e₄, ap (λ (x : ℕ → ℕ). x l) e₅);
     held = λ l a h q. cl (s .dep l) q;
     pending = λ m h k. ap (λ (x : Named). x .pending) (fs m h k);
+    calm = λ m h k p. fs m h k;
+    sto = vs;
     soiled = λ u h k a b. clash b (ap (λ (x : Named). x .dirty) (fs u h k) ∙ a);
     stuck = e₆;
   }
 
   pub frame-same : (s : St) → Frame g N c s s
-  frame-same s = frame-flags s s refl refl refl refl refl refl (λ m h. (refl, refl)) (λ m h k. refl) (λ m q. q)
+  frame-same s = frame-flags s s refl refl refl refl refl refl (λ m h. (refl, refl)) (λ m h k. refl) (λ m q. q) (λ m h k. refl)
 
   -- a link of t whose subscriber is outside N is one of s
   pub was-link : (s t : St) → Slots g s → Slots g t → Frame g N c s t → (l u : ℕ) → t .live l ≡ true → t .sub l ≡ u → (N u → ⊥) → (s .live l ≡ true) × (s .sub l ≡ u) × (t .dep l ≡ s .dep l)
@@ -98,6 +112,8 @@ module _ (g : Given) (N : Set) (c : ℕ) where
         let y = p .links l lv h in
         subst (λ (n : ℕ). x .fl n ≡ f1) (y .1) (q .held l (y .0) (λ n. h (subst N (y .2) n)) (subst (λ (n : ℕ). t .fl n ≡ f1) (sym (y .1)) (p .held l lv h e)));
     pending = λ m h k. q .pending m h k ∙ p .pending m h k;
+    calm = λ m h k e. q .calm m h k (p .pending m h k ∙ e) ∙ p .calm m h k e;
+    sto = λ m h k. q .sto m h k ∙ p .sto m h k;
     soiled = λ u h k d e. either (t .fl u .dirty) (λ m. p .soiled u h k d m) (λ m. back u h (q .soiled u h k m e));
     stuck = q .stuck ∙ p .stuck;
   }
@@ -124,6 +140,8 @@ frame-wider g N M c b s t h le f = record {
   links = λ l lv a. f .links l lv (λ n. a (h (s .sub l) n));
   held = λ l lv a. f .held l lv (λ n. a (h (s .sub l) n));
   pending = λ m a. f .pending m (λ n. a (h m n));
+  calm = λ m a. f .calm m (λ n. a (h m n));
+  sto = λ m a. f .sto m (λ n. a (h m n));
   soiled = λ u a k d e.
       let z = f .soiled u (λ n. a (h u n)) k d e in
       let l = z .low in
@@ -184,8 +202,8 @@ module _ (g : Given) (st : Static g) where
   signal-lists X s i n e = append-is-nil (s .done n) (s .rest n) (none-nil (deps s n) (λ l j. let x = i .lists .deps-live l n j in i .goes l (x .0) .of-signal (ap (g .kind) (x .1) ∙ e)))
 
   -- ---- the purge of a computed
-  pub purge-frame : (X : Set) (s t : St) (n : ℕ) → Inside g X s → n < g .size → g .kind n ≡ computed → Purged g st X s n t → Frame g (Low g (suc (rank n))) (rank n) s t
-  purge-frame X s t n i h k p =
+  pub purge-frame : (X : Set) (s t : St) (n : ℕ) → Inside g X s → n < g .size → g .kind n ≡ computed → Purged g st X s n t → t .sto ≡ s .sto → Frame g (Low g (suc (rank n))) (rank n) s t
+  purge-frame X s t n i h k p vs =
       let d = p .dropped in
       record {
         lists = λ m a. by-kind m a;
@@ -194,6 +212,8 @@ module _ (g : Given) (st : Static g) where
         links = λ l lv a. (alive l lv a, ap (λ (x : ℕ → ℕ). x l) (d .dep), ap (λ (x : ℕ → ℕ). x l) (d .sub));
         held = λ l lv a e. keeps l lv a e (d .fate (s .dep l));
         pending = λ m a q. ap (λ (x : Named). x .pending) (d .flags m (λ z. not-low m a q z) .0);
+        calm = λ m a q e. d .flags m (λ z. not-low m a q z) .0;
+        sto = λ m a q. ap (λ (x : ℕ → Value). x m) vs;
         soiled = λ u a q x y. clash y (ap (λ (x : Named). x .dirty) (d .flags u (λ z. not-low u a q z) .0) ∙ x);
         stuck = d .stuck;
       }

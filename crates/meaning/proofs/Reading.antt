@@ -8,6 +8,7 @@ use native.Mathlib.Omega.{arith}
 use lib.Dec.{eqb}
 use lib.ListN.{length, length-append}
 use borrow.Author.Tests.{eqb-true, eqb-false}
+use Rattle.primitive.specs.declared.flags.Named.{Named}
 use Rattle.primitive.specs.Values.{isZero}
 use Rattle.formula.specs.Trees.{Tree, constant, read, two, choose, names}
 use Rattle.meaning.specs.State.{St, readable, rank, f1, up}
@@ -74,6 +75,8 @@ module _ (g : Given) (st : Static g) where
     pub left : length (readLinks (g .kind) (s .dep) (s .rest u)) ≤ reads-of u
     pub spare : length (ownerLinks (g .kind u) (s .subs u)) + (reads-of u + reads-of u) ≤ spends g s u
     pub tail : s₀ .rest u ≡ [] → s .rest u ≡ []
+    pub calm : s₀ .fl u .pending ≡ false → s .fl u ≡ s₀ .fl u
+    pub sto : s .sto u ≡ s₀ .sto u
     pub known : (n : ℕ) → X n ⊎ (X n → ⊥)
     pub pays : (n : ℕ) → n < g .size → X n → (n ≡ u → ⊥) → Paid g s n
 
@@ -114,8 +117,8 @@ module _ (g : Given) (st : Static g) where
     outside n x f (inr q) = f q
 
     -- one step more
-    step : (i : ℕ) (s t : St) → During X u s₀ i s → Inside g X t → Frame g (Near u) (rank u) s t → length (t .done u) ≤ suc i → length (readLinks (g .kind) (t .dep) (t .rest u)) ≤ reads-of u → (s .rest u ≡ [] → t .rest u ≡ []) → ((l : ℕ) → In l (t .done u) → readable (g .kind (t .dep l)) ≡ true) → During X u s₀ (suc i) t
-    step i s t d j f few left tail reads = record {
+    step : (i : ℕ) (s t : St) → During X u s₀ i s → Inside g X t → Frame g (Near u) (rank u) s t → length (t .done u) ≤ suc i → length (readLinks (g .kind) (t .dep) (t .rest u)) ≤ reads-of u → (s .rest u ≡ [] → t .rest u ≡ []) → ((l : ℕ) → In l (t .done u) → readable (g .kind (t .dep l)) ≡ true) → (s .fl u .pending ≡ false → t .fl u ≡ s .fl u) → t .sto u ≡ s .sto u → During X u s₀ (suc i) t
+    step i s t d j f few left tail reads calm sto = record {
       inside = j;
       frame = frame-then g (Near u) u s₀ s t (i₀ .lists) (d .inside .lists) (d .frame) f;
       few = few;
@@ -123,6 +126,8 @@ module _ (g : Given) (st : Static g) where
       left = left;
       spare = let a = ap length (owners (readable (g .kind u)) refl) in let b = spent in let c = d .spare in omega arith;
       tail = λ e. tail (d .tail e);
+      calm = λ e. let x = d .calm e in calm (ap (λ (z : Named). z .pending) x ∙ e) ∙ x;
+      sto = sto ∙ d .sto;
       known = d .known;
       pays = λ n h x q. paid-frame g st X (Near u) u s t n (d .inside) j f h (outside n x q) (d .pays n h x q);
     }
@@ -136,7 +141,7 @@ module _ (g : Given) (st : Static g) where
             (either (readable (g .kind u)) (λ r. j .gone-kind u hu r ∙ sym (d .inside .gone-kind u hu r)) (λ r. f .gone u r))
 
     pub later : (i j : ℕ) (s : St) → i ≤ j → During X u s₀ i s → During X u s₀ j s
-    later i j s le d = let a = d .few in record { inside = d .inside; frame = d .frame; few = omega arith; reads = d .reads; left = d .left; spare = d .spare; tail = d .tail; known = d .known; pays = d .pays }
+    later i j s le d = let a = d .few in record { inside = d .inside; frame = d .frame; few = omega arith; reads = d .reads; left = d .left; spare = d .spare; tail = d .tail; calm = d .calm; sto = d .sto; known = d .known; pays = d .pays }
 
     -- ---- the link to m, which is clean
     module _ (m : ℕ) (named : In m (names (g .form u))) where
@@ -162,7 +167,7 @@ module _ (g : Given) (st : Static g) where
       renewed i s v d (l ∷ ls) e q =
           let t = renew s u v (l ∷ ls) in
           let f : Frame g (Near u) (rank u) s t = frame-flags g (Near u) u s t refl refl refl refl refl refl
-          (λ n a. (up-other (s .done) u (s .done u ++ l ∷ []) n (λ z. a (inr z)), up-other (s .rest) u ls n (λ z. a (inr z)))) (λ n a k. refl) (λ n z. z) in
+          (λ n a. (up-other (s .done) u (s .done u ++ l ∷ []) n (λ z. a (inr z)), up-other (s .rest) u ls n (λ z. a (inr z)))) (λ n a k. refl) (λ n z. z) (λ n a k. refl) in
           let a = ap length (up-same (s .done) u (s .done u ++ l ∷ [])) in
           let b = length-append (s .done u) (l ∷ []) in
           let c = d .few in
@@ -172,7 +177,7 @@ module _ (g : Given) (st : Static g) where
           let w = ap (λ (z : List ℕ). length (readLinks (g .kind) (s .dep) z)) e in
           let k = d .left in
           step i s t d (renew-inside g X s u v l ls (d .inside) xu e) f (omega arith) (omega arith) (λ p. absurd (nil-none (s .rest u) l p (subst (In l) (sym e) (inl refl))))
-          (λ k j. last-read d (λ k j. d .reads k j) k (subst (In k) (up-same (s .done) u (s .done u ++ l ∷ [])) j))
+          (λ k j. last-read d (λ k j. d .reads k j) k (subst (In k) (up-same (s .done) u (s .done u ++ l ∷ [])) j)) (λ z. refl) refl
         where
           last-read : During X u s₀ i s → ((k : ℕ) → In k (s .done u) → readable (g .kind (s .dep k)) ≡ true) → (k : ℕ) → In k (s .done u ++ l ∷ []) → readable (g .kind (s .dep k)) ≡ true
           last-read d h k j = in-cases k (s .done u) (l ∷ []) j (h k) (λ z. here z)
@@ -217,6 +222,8 @@ module _ (g : Given) (st : Static g) where
               links = λ k lv a. (up-other (s .live) l true k (away k lv) ∙ lv, up-other (s .dep) l m k (away k lv), up-other (s .sub) l u k (away k lv));
               held = λ k lv a q. q;
               pending = λ n a q. refl;
+              calm = λ n a q z. refl;
+              sto = λ n a q. refl;
               soiled = λ n a q x y. clash y x;
               stuck = unspent;
             } in
@@ -230,7 +237,7 @@ module _ (g : Given) (st : Static g) where
             step i s t d it f (omega arith) (omega arith) (λ p. p)
             (λ k j. in-cases k (s .done u) (l ∷ []) (subst (In k) (up-same (s .done) u (s .done u ++ l ∷ [])) j)
             (λ z. ap (λ (x : ℕ). readable (g .kind x)) (up-other (s .dep) l m k (away k (d .inside .lists .deps-live k u (in-left k (s .done u) (s .rest u) z) .0))) ∙ d .reads k z)
-            (λ z. here k z))
+            (λ z. here k z)) (λ z. refl) refl
           where
             here : (k : ℕ) → In k (l ∷ []) → readable (g .kind (up (s .dep) l m k)) ≡ true
             here k (inl z) = ap (λ (x : ℕ). readable (g .kind (up (s .dep) l m x))) z ∙ ap (λ (x : ℕ). readable (g .kind x)) (up-same (s .dep) l m) ∙ m-low .0
@@ -261,6 +268,8 @@ module _ (g : Given) (st : Static g) where
           let same = w .frame .lists u off in
           let rest-ends : readLinks (g .kind) (t .dep) (s .rest u) ≡ readLinks (g .kind) (s .dep) (s .rest u) =
           reads-agree (g .kind) (s .dep) (t .dep) (s .rest u) (λ l z. let x = d .inside .lists .deps-live l u (in-right l (s .done u) (s .rest u) z) in w .frame .links l (x .0) (λ p. off (subst (Low g (suc (rank m))) (x .1) p)) .1) in
+          let calm : s .fl u .pending ≡ false → t .fl u ≡ s .fl u = w .frame .calm u off (goes-to .of-signal) in
+          let sto : t .sto u ≡ s .sto u = w .frame .sto u off (goes-to .of-signal) in
           let wide : Frame g (Near u) (rank u) s t = frame-wider g (Low g (suc (rank m))) (Near u) (suc m) u s t (λ n p. let a = p .1 in inl (p .0, omega arith)) (omega arith) (w .frame) in
           let a = ap length (same .0) in
           let b = ap (λ (x : List ℕ). length (readLinks (g .kind) (t .dep) x)) (same .1) in
@@ -277,8 +286,10 @@ module _ (g : Given) (st : Static g) where
             few = omega arith;
             reads = kept;
             left = omega arith;
-            spare = step i s t d (w .inside) wide (omega arith) (omega arith) (λ p. same .1 ∙ p) kept .spare;
+            spare = step i s t d (w .inside) wide (omega arith) (omega arith) (λ p. same .1 ∙ p) kept calm sto .spare;
             tail = λ q. same .1 ∙ d .tail q;
+            calm = λ q. let x = d .calm q in calm (ap (λ (z : Named). z .pending) x ∙ q) ∙ x;
+            sto = sto ∙ d .sto;
             known = d .known;
             pays = λ n h x q. paid-frame g st X (Near u) u s t n (d .inside) (w .inside) wide h (outside n x q) (d .pays n h x q);
           }

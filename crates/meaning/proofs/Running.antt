@@ -108,6 +108,10 @@ module _ (g : Given) (st : Static g) where
     pub run-above : (m : ℕ) → Run e m → readable (g .kind m) ≡ true → rank e ≤ rank m
     run-above m (inr q) r = clash r (ap (λ (z : ℕ). readable (g .kind z)) q ∙ re)
 
+    -- e is no dependency of itself
+    pub run-apart : (d : ℕ) → d < g .size → Goes g d e → Run e d → ⊥
+    run-apart d hd gd (inr z) = never-back g st d e hd gd (subst (Under g d) z (under-same g st d))
+
     run-known : (m : ℕ) → Run e m ⊎ (Run e m → ⊥)
     run-known m = either (eqb m e) (λ q. inl (inr (eqb-true m e q))) (λ q. inr (off (eqb-false m e q)))
       where
@@ -162,6 +166,8 @@ module _ (g : Given) (st : Static g) where
             left = left;
             spare = spare;
             tail = λ q. q;
+            calm = λ q. refl;
+            sto = refl;
             known = run-known;
             pays = λ n h x q. absurd (q (at n x));
           }
@@ -277,7 +283,7 @@ module _ (g : Given) (st : Static g) where
       f-begun = frame-flags g (Near g st e) e s (begun s) refl refl refl refl refl refl
           (λ m z. (up-other (s .done) e [] m (λ q. z (inr q)), up-other (s .rest) e (s .done e ++ s .rest e) m (λ q. z (inr q))))
           (λ m z q. up-other (s .fl) e f6 m (λ x. z (inr x)))
-          (λ m q. kept m q)
+          (λ m q. kept m q) (λ m z q. refl)
         where
           kept : (m : ℕ) → s .fl m ≡ f1 → up (s .fl) e f6 m ≡ f1
           kept m q = up-other (s .fl) e f6 m (λ x. clash (sym (ap (λ (z : Named). z .pending) (sym (ap (s .fl) x) ∙ q)) ∙ pd) refl) ∙ q
@@ -417,9 +423,6 @@ module _ (g : Given) (st : Static g) where
         pub has-deps : deps s′ e ≡ [] → ⊥
         unfolding readLinks
         has-deps z = reads (ap (readLinks (g .kind) (s .dep)) (append-is-nil (s .done e) (s .rest e) z .0))
-
-        pub run-apart : (d : ℕ) → d < g .size → Goes g d e → Run e d → ⊥
-        run-apart d hd gd (inr z) = never-back g st d e hd gd (subst (Under g d) z (under-same g st d))
 
         pub checked : Checked g st (s′ .size) (fresh (s′ .size)) (fresh-inside g st (s′ .size)) (Run e) s′ e (check s′ e)
         checked =

@@ -23,7 +23,7 @@ use Rattle.meaning.proofs.Still.{Given}
 use Rattle.meaning.proofs.Inside.{Set, also, Static, Goes, Rests, Inside, widen, let-out, read-moves, moves-read, Under}
 use Rattle.meaning.proofs.Dropping.{aComputed, flags-inside, rewind-inside, purge-inside}
 use Rattle.meaning.proofs.Room.{ownerLinks, spends, Paid}
-use Rattle.meaning.proofs.Frames.{others, Low, Soiled, Frame, frame-flags, frame-same, frame-then, frame-wider, paid-frame, Open, open-frame, rests-clean, purge-frame}
+use Rattle.meaning.proofs.Frames.{others, Low, Soiled, Frame, frame-flags, frame-same, frame-then, frame-wider, paid-frame, Open, open-frame, rests-clean, purge-sto, purge-frame}
 use Rattle.meaning.proofs.Soiling.{shallow-inside, shallow-frame}
 use Rattle.meaning.proofs.Reading.{Above, Freshened, Freshens, Near, reads-of, During, eval-during}
 
@@ -66,16 +66,27 @@ module _ (g : Given) (st : Static g) where
           neither e f (inl x) = f x
           neither e f (inr q) = e q
 
+  -- ---- a computed n below X
+  module _ (X : Set) (n : ℕ) (kn : g .kind n ≡ computed) (ab : Above g st X n) where
+    pub also-above : (m : ℕ) → also X n m → readable (g .kind m) ≡ true → rank n ≤ rank m
+    also-above m (inl x) r = let a = ab m x r in omega arith
+    also-above m (inr q) r = omega arith
+
+    -- what a purge of n may come to
+    pub purge-apart : (m : ℕ) → Under g n m × (m ≡ n → ⊥) → also X n m → ⊥
+    purge-apart m p (inl x) = let rn = ap readable kn in either (readable (g .kind m)) (λ r. let a = ab m x r in let b = p .0 .low r rn in omega arith) (λ r. clash rn (p .0 .high r .0))
+    purge-apart m p (inr q) = p .1 q
+
+    -- what a check of n asks
+    pub check-apart : (d : ℕ) → d < g .size → Goes g d n → X d → ⊥
+    check-apart d hd gd x = let q = gd .of-computed kn in let a = gd .lower q in let b = ab d x q in omega arith
+
   module _ (k : ℕ) (fr : St → ℕ → Ans) (frs : Freshens g st k fr) where
     -- ---- the evaluation of a computed n, from s where it is at rest, with its flags 5 in s₁, to where its value is in
     module _ (X : Set) (s s₁ : St) (n : ℕ) (i : Inside g X s) (o : Open g st X s) (h : n < g .size) (kn : g .kind n ≡ computed) (ab : Above g st X n) (le : rank n ≤ k)
         (i₁ : Inside g (also X n) s₁) (f₁ : Frame g (Low g (suc (rank n))) (rank n) s s₁) (empty : s₁ .done n ≡ []) (left : length (readLinks (g .kind) (s₁ .dep) (s₁ .rest n)) ≤ reads-of g st n) where
       rn : readable (g .kind n) ≡ true
       rn = ap readable kn
-
-      above : (m : ℕ) → also X n m → readable (g .kind m) ≡ true → rank n ≤ rank m
-      above m (inl x) r = let a = ab m x r in omega arith
-      above m (inr q) r = omega arith
 
       far : (m : ℕ) → X m → Low g (suc (rank n)) m → ⊥
       far m x p = let a = ab m x (ap readable (p .0)) in let b = p .1 in omega arith
@@ -91,6 +102,8 @@ module _ (g : Given) (st : Static g) where
             left = left;
             spare = spare (g .kind n) refl kn;
             tail = λ q. q;
+            calm = λ q. refl;
+            sto = refl;
             known = also-known X n (o .known);
             pays = λ m l x q. pays m l q x;
           }
@@ -111,7 +124,7 @@ module _ (g : Given) (st : Static g) where
       went : During g st (also X n) n s₁ (reads-of g st n) (out .st)
       went =
           let e : 0 + reads-of g st n ≡ reads-of g st n = omega arith in
-          subst (λ (j : ℕ). During g st (also X n) n s₁ j (out .st)) e (eval-during g st (also X n) n (inr refl) h above s₁ i₁ k fr frs le (g .form n) (λ m z. z) 0 s₁ (omega arith) begin)
+          subst (λ (j : ℕ). During g st (also X n) n s₁ j (out .st)) e (eval-during g st (also X n) n (inr refl) h (also-above X n kn ab) s₁ i₁ k fr frs le (g .form n) (λ m z. z) 0 s₁ (omega arith) begin)
 
       abbrev stored : St
       stored = setFl (setSto (out .st) n (out .val)) n f1
@@ -129,7 +142,8 @@ module _ (g : Given) (st : Static g) where
       f-stored : Frame g (Low g (suc n)) n s stored
       f-stored =
           let b : Frame g (Low g (suc n)) n (out .st) stored = frame-flags g (Low g (suc n)) n (out .st) stored refl refl refl refl refl refl (λ m z. (refl, refl))
-          (λ m z q. up-other (out .st .fl) n f1 m (λ e. z (ap (g .kind) e ∙ kn, omega arith))) (λ m q. up-by (out .st .fl) n f1 (λ (x : Named). x ≡ f1) m (λ e. refl) (λ e. q)) in
+          (λ m z q. up-other (out .st .fl) n f1 m (λ e. z (ap (g .kind) e ∙ kn, omega arith))) (λ m q. up-by (out .st .fl) n f1 (λ (x : Named). x ≡ f1) m (λ e. refl) (λ e. q))
+          (λ m z q. up-other (out .st .sto) n (out .val) m (λ e. z (ap (g .kind) e ∙ kn, omega arith))) in
           frame-then g (Low g (suc n)) n s (out .st) stored (i .lists) (went .inside .lists) f-evaluated b
 
       few-stored : length (readLinks (g .kind) (stored .dep) (stored .done n)) ≤ reads-of g st n
@@ -148,7 +162,7 @@ module _ (g : Given) (st : Static g) where
 
       pub update-ends : (b : Bool) → (b ≡ true → s .fl n ≡ f1 → ⊥) → Freshened g st X s n (ans (purge stored n) b)
       update-ends b ch =
-          let p = purge-inside g st (also X n) stored n i-stored (inr refl) apart in
+          let p = purge-inside g st (also X n) stored n i-stored (inr refl) (purge-apart X n kn ab) in
           let t = purge stored n in
           let outside : Under g n n × (n ≡ n → ⊥) → ⊥ = λ z. z .1 refl in
           let flag : t .fl n ≡ f1 = p .dropped .flags n outside .0 ∙ up-same (out .st .fl) n f1 in
@@ -157,14 +171,10 @@ module _ (g : Given) (st : Static g) where
           let c = went .few in
           record {
             inside = let-out g X t n (p .inside) (rests-clean g st (t .queue) (t .dep) (t .sub) n (t .fl n) (t .gone n) (t .done n) (t .rest n) (t .subs n) h rn flag (p .inside .gone-kind n h rn) (p .rest) (omega arith));
-            frame = frame-then g (Low g (suc (rank n))) n s stored t (i .lists) (i-stored .lists) f-stored (purge-frame g st (also X n) stored t n i-stored h kn p);
+            frame = frame-then g (Low g (suc (rank n))) n s stored t (i .lists) (i-stored .lists) f-stored (purge-frame g st (also X n) stored t n i-stored h kn p (purge-sto stored n));
             clean = flag;
             changed = ch;
           }
-        where
-          apart : (m : ℕ) → Under g n m × (m ≡ n → ⊥) → also X n m → ⊥
-          apart m p (inl x) = either (readable (g .kind m)) (λ r. let a = ab m x r in let b = p .0 .low r rn in omega arith) (λ r. clash rn (p .0 .high r .0))
-          apart m p (inr q) = p .1 q
 
     module _ (X : Set) (s : St) (n : ℕ) (i : Inside g X s) (o : Open g st X s) (h : n < g .size) (ab : Above g st X n) (le : rank n ≤ k) where
       pub form-is : s .form n ≡ g .form n
@@ -177,37 +187,67 @@ module _ (g : Given) (st : Static g) where
       pub n-off : readable (g .kind n) ≡ true → X n → ⊥
       n-off r x = let a = ab n x r in omega arith
 
-      first-inside : g .kind n ≡ computed → s .fl n ≡ f0 → s .done n ≡ [] → s .rest n ≡ [] → Freshened g st X s n (ans (firstW fr s n) false)
-      unfolding firstW readLinks
-      first-inside kn fl e e′ =
-          let s₁ = setFl s n f5 in
-          let i₁ : Inside g (also X n) s₁ = flags-inside g (also X n) s n wide (inr refl) f5 (λ q. refl) in
-          let f₁ : Frame g (Low g (suc (rank n))) (rank n) s s₁ = frame-flags g (Low g (suc (rank n))) n s s₁ refl refl refl refl refl refl (λ m z. (refl, refl))
-          (λ m z q. up-other (s .fl) n f5 m (λ x. z (ap (g .kind) x ∙ kn, omega arith)))
-          (λ m q. up-other (s .fl) n f5 m (λ x. clash (ap (λ (z : Named). z .mutable) q) (ap (λ (z : Named). z .mutable) (ap (s .fl) x ∙ fl))) ∙ q) in
-          let few : length (readLinks (g .kind) (s .dep) (s .rest n)) ≤ reads-of g st n = subst (λ (x : List ℕ). length (readLinks (g .kind) (s .dep) x) ≤ reads-of g st n) (sym e′) (omega arith) in
-          subst (λ (t : Tree). Freshened g st X s n (let z = evalBy (readW fr n) t s₁ in ans (setFl (setSto (z .st) n (z .val)) n f1) false)) (sym form-is)
-          (first-ends X s s₁ n i o h kn ab le i₁ f₁ e few e′)
+      -- ---- before a first evaluation
+      abbrev pub begun-first : St
+      begun-first = setFl s n f5
 
-      update-inside : g .kind n ≡ computed → (s .fl n ≡ f1 → ⊥) → Freshened g st X s n (updComputed fr s n)
-      unfolding updComputed
-      update-inside kn un =
+      i-first : Inside g (also X n) begun-first
+      i-first = flags-inside g (also X n) s n wide (inr refl) f5 (λ q. refl)
+
+      f-first : g .kind n ≡ computed → s .fl n ≡ f0 → Frame g (Low g (suc (rank n))) (rank n) s begun-first
+      f-first kn fl = frame-flags g (Low g (suc (rank n))) n s begun-first refl refl refl refl refl refl (λ m z. (refl, refl))
+          (λ m z q. up-other (s .fl) n f5 m (λ x. z (ap (g .kind) x ∙ kn, omega arith)))
+          (λ m q. up-other (s .fl) n f5 m (λ x. clash (ap (λ (z : Named). z .mutable) q) (ap (λ (z : Named). z .mutable) (ap (s .fl) x ∙ fl))) ∙ q)
+          (λ m z q. refl)
+
+      few-first : s .rest n ≡ [] → length (readLinks (g .kind) (s .dep) (s .rest n)) ≤ reads-of g st n
+      unfolding readLinks
+      few-first e = subst (λ (x : List ℕ). length (readLinks (g .kind) (s .dep) x) ≤ reads-of g st n) (sym e) (omega arith)
+
+      pub first-begins : g .kind n ≡ computed → s .fl n ≡ f0 → s .done n ≡ [] → s .rest n ≡ [] → During g st (also X n) n begun-first 0 begun-first
+      first-begins kn fl e e′ = begin X s begun-first n i o h kn ab le i-first (f-first kn fl) e (few-first e′)
+
+      first-inside : g .kind n ≡ computed → s .fl n ≡ f0 → s .done n ≡ [] → s .rest n ≡ [] → Freshened g st X s n (ans (firstW fr s n) false)
+      unfolding firstW
+      first-inside kn fl e e′ =
+          subst (λ (t : Tree). Freshened g st X s n (let z = evalBy (readW fr n) t begun-first in ans (setFl (setSto (z .st) n (z .val)) n f1) false)) (sym form-is)
+          (first-ends X s begun-first n i o h kn ab le i-first (f-first kn fl) e (few-first e′) e′)
+
+      -- ---- before a re-evaluation
+      abbrev pub begun-update : St
+      begun-update = setFl (rewind (withCycle s (raised (s .cycle))) n) n f5
+
+      i-begun : Inside g (also X n) begun-update
+      i-begun =
           let c = withCycle s (raised (s .cycle)) in
-          let s₁ = setFl (rewind c n) n f5 in
           let ic : Inside g (also X n) c = others g (also X n) s wide (raised (s .cycle)) (s .sto) (s .pend) (s .depth) (s .log) (s .stuck) in
-          let i₁ : Inside g (also X n) s₁ = flags-inside g (also X n) (rewind c n) n (rewind-inside g (also X n) c n ic (inr refl)) (inr refl) f5 (λ q. refl) in
+          flags-inside g (also X n) (rewind c n) n (rewind-inside g (also X n) c n ic (inr refl)) (inr refl) f5 (λ q. refl)
+
+      f-begun : g .kind n ≡ computed → (s .fl n ≡ f1 → ⊥) → Frame g (Low g (suc (rank n))) (rank n) s begun-update
+      f-begun kn un =
           let off : (m : ℕ) → (Low g (suc (rank n)) m → ⊥) → m ≡ n → ⊥ = λ m z x. z (ap (g .kind) x ∙ kn, omega arith) in
-          let f₁ : Frame g (Low g (suc (rank n))) (rank n) s s₁ = frame-flags g (Low g (suc (rank n))) n s s₁ refl refl refl refl refl refl
+          frame-flags g (Low g (suc (rank n))) n s begun-update refl refl refl refl refl refl
           (λ m z. (up-other (s .done) n [] m (off m z), up-other (s .rest) n (s .done n ++ s .rest n) m (off m z)))
           (λ m z q. up-other (s .fl) n f5 m (off m z))
-          (λ m q. up-other (s .fl) n f5 m (λ x. un (sym (ap (s .fl) x) ∙ q)) ∙ q) in
-          let r = i .rests n h (n-off (ap readable kn)) in
-          let all : s₁ .rest n ≡ s .done n = up-same (s .rest) n (s .done n ++ s .rest n) ∙ ap (λ (x : List ℕ). s .done n ++ x) (r .tail) ∙ append-nil (s .done n) in
-          let few : length (readLinks (g .kind) (s .dep) (s₁ .rest n)) ≤ reads-of g st n = subst (λ (x : List ℕ). length (readLinks (g .kind) (s .dep) x) ≤ reads-of g st n) (sym all) (r .few) in
-          subst (λ (t : Tree). Freshened g st X s n (let z = evalBy (readW fr n) t s₁ in ans (purge (setFl (setSto (z .st) n (z .val)) n f1) n) (not (same (s .sto n) (z .val))))) (sym form-is)
-          (update-ends X s s₁ n i o h kn ab le i₁ f₁ (up-same (s .done) n []) few (not (same (s .sto n) _)) (λ q. un))
+          (λ m q. up-other (s .fl) n f5 m (λ x. un (sym (ap (s .fl) x) ∙ q)) ∙ q)
+          (λ m z q. refl)
 
-      signal-inside : g .kind n ≡ signal → (s .fl n ≡ f1 → ⊥) → Freshened g st X s n (updSignal s n)
+      few-begun : g .kind n ≡ computed → length (readLinks (g .kind) (s .dep) (begun-update .rest n)) ≤ reads-of g st n
+      few-begun kn =
+          let r = i .rests n h (n-off (ap readable kn)) in
+          let all : begun-update .rest n ≡ s .done n = up-same (s .rest) n (s .done n ++ s .rest n) ∙ ap (λ (x : List ℕ). s .done n ++ x) (r .tail) ∙ append-nil (s .done n) in
+          subst (λ (x : List ℕ). length (readLinks (g .kind) (s .dep) x) ≤ reads-of g st n) (sym all) (r .few)
+
+      pub update-begins : g .kind n ≡ computed → (s .fl n ≡ f1 → ⊥) → During g st (also X n) n begun-update 0 begun-update
+      update-begins kn un = begin X s begun-update n i o h kn ab le i-begun (f-begun kn un) (up-same (s .done) n []) (few-begun kn)
+
+      pub update-inside : g .kind n ≡ computed → (s .fl n ≡ f1 → ⊥) → Freshened g st X s n (updComputed fr s n)
+      unfolding updComputed
+      update-inside kn un =
+          subst (λ (t : Tree). Freshened g st X s n (let z = evalBy (readW fr n) t begun-update in ans (purge (setFl (setSto (z .st) n (z .val)) n f1) n) (not (same (s .sto n) (z .val))))) (sym form-is)
+          (update-ends X s begun-update n i o h kn ab le i-begun (f-begun kn un) (up-same (s .done) n []) (few-begun kn) (not (same (s .sto n) _)) (λ q. un))
+
+      pub signal-inside : g .kind n ≡ signal → (s .fl n ≡ f1 → ⊥) → Freshened g st X s n (updSignal s n)
       unfolding updSignal
       signal-inside kn un =
           let t = setSto (setFl s n f1) n (s .pend n) in
@@ -217,7 +257,8 @@ module _ (g : Given) (st : Static g) where
             inside = let-out g X t n it
                 (rests-clean g st (t .queue) (t .dep) (t .sub) n (t .fl n) (t .gone n) (t .done n) (t .rest n) (t .subs n) h (ap readable kn) (up-same (s .fl) n f1) (i .gone-kind n h (ap readable kn)) (r .tail) (r .few));
             frame = frame-flags g (Low g (suc (rank n))) n s t refl refl refl refl refl refl (λ m z. (refl, refl)) (λ m z q. up-other (s .fl) n f1 m (λ x. q (ap (g .kind) x ∙ kn)))
-                (λ m q. up-by (s .fl) n f1 (λ (x : Named). x ≡ f1) m (λ e. refl) (λ e. q));
+                (λ m q. up-by (s .fl) n f1 (λ (x : Named). x ≡ f1) m (λ e. refl) (λ e. q))
+                (λ m z q. up-other (s .sto) n (s .pend n) m (λ x. q (ap (g .kind) x ∙ kn)));
             clean = up-same (s .fl) n f1;
             changed = λ q. un;
           }
@@ -330,18 +371,35 @@ module _ (g : Given) (st : Static g) where
       not-clean : (π : Named → Bool) → π (s .fl n) ≡ true → π f1 ≡ false → s .fl n ≡ f1 → ⊥
       not-clean π a b e = clash (sym (ap π e) ∙ a) b
 
+      -- ---- the check of a computed that is pending
+      module _ (kn : g .kind n ≡ computed) (pd : s .fl n .pending ≡ true) (ne : deps s n ≡ [] → ⊥) where
+        pub n-checked : Checked X s n (checkW fr s n)
+        n-checked = check-inside X n h le (λ m x q. let a = ab m x q in omega arith) (check-apart X n kn ab) s i o ne
+
+        pub n-open : Open g st X (checkW fr s n .st)
+        n-open = open-frame g st X (Low g (rank n)) n s (checkW fr s n .st) i (n-checked .inside) (n-checked .frame) (λ m x p. let a = ab m x (ap readable (p .0)) in let b = p .1 in omega arith) o
+
+        pub n-pending : checkW fr s n .st .fl n .pending ≡ true
+        n-pending = n-checked .frame .pending n (λ p. let a = p .1 in omega arith) (λ q. clash (ap aComputed kn) (ap aComputed q)) ∙ pd
+
+        pub n-unclean : checkW fr s n .st .fl n ≡ f1 → ⊥
+        n-unclean e = clash (sym (ap (λ (z : Named). z .pending) e) ∙ n-pending) refl
+
+        -- where no dependency has changed
+        pub n-cleared : checkW fr s n .yes ≡ false → withPending (checkW fr s n .st .fl n) false ≡ f1
+        n-cleared y =
+            let t = checkW fr s n .st in
+            cleared (t .fl n) (t .done n) (t .subs n) n-pending (n-checked .answer y) (n-checked .inside .rests n h (n-off X s n i o h ab le r) .of-computed kn)
+
       pending-inside : g .kind n ≡ computed → s .fl n .pending ≡ true → (deps s n ≡ [] → ⊥) → Freshened g st X s n (pendingW fr s n)
       unfolding pendingW
       pending-inside kn pd ne =
           let c = checkW fr s n in
           let t = c .st in
-          let w = check-inside X n h le (λ m x q. let a = ab m x q in omega arith) apart s i o ne in
-          let n-low : Low g (rank n) n → ⊥ = λ p. let a = p .1 in omega arith in
-          let still : t .fl n .pending ≡ true = w .frame .pending n n-low (λ q. clash (ap aComputed kn) (ap aComputed q)) ∙ pd in
+          let w = n-checked kn pd ne in
           let wide : Frame g (Low g (suc (rank n))) (rank n) s t = frame-wider g (Low g (rank n)) (Low g (suc (rank n))) n n s t (λ m p. let a = p .1 in (p .0, omega arith)) (omega arith) (w .frame) in
-          let opened : Open g st X t = open-frame g st X (Low g (rank n)) n s t i (w .inside) (w .frame) (λ m x p. let a = ab m x (ap readable (p .0)) in let b = p .1 in omega arith) o in
           branch (Freshened g st X s n) (c .yes)
-          (λ y. let f = upd-inside X t n (w .inside) opened h ab le r (λ e. clash (sym (ap (λ (z : Named). z .pending) e) ∙ still) refl) (s .kind n) (sym kind-is) in
+          (λ y. let f = upd-inside X t n (w .inside) (n-open kn pd ne) h ab le r (n-unclean kn pd ne) (s .kind n) (sym kind-is) in
           record {
             inside = f .inside;
             frame = frame-then g (Low g (suc (rank n))) n s t _ (i .lists) (w .inside .lists) wide (f .frame);
@@ -349,22 +407,19 @@ module _ (g : Given) (st : Static g) where
             changed = λ q. not-clean (λ (z : Named). z .pending) pd refl;
           })
           (λ y. let rt = w .inside .rests n h (n-off X s n i o h ab le r) in
-          let flag : withPending (t .fl n) false ≡ f1 = cleared (t .fl n) (t .done n) (t .subs n) still (w .answer y) (rt .of-computed kn) in
+          let flag = n-cleared kn pd ne y in
           let x = setFl t n (withPending (t .fl n) false) in
           let ix : Inside g (also X n) x = flags-inside g (also X n) t n (widen g X (also X n) t (λ m z. inl z) (w .inside)) (inr refl) (withPending (t .fl n) false) (λ q. clash q refl) in
           let now : x .fl n ≡ f1 = up-same (t .fl) n (withPending (t .fl n) false) ∙ flag in
           let f : Frame g (Low g (suc (rank n))) (rank n) t x = frame-flags g (Low g (suc (rank n))) n t x refl refl refl refl refl refl (λ m z. (refl, refl))
           (λ m z q. up-other (t .fl) n _ m (λ e. z (ap (g .kind) e ∙ kn, omega arith)))
-          (λ m q. up-by (t .fl) n (withPending (t .fl n) false) (λ (z : Named). z ≡ f1) m (λ e. flag) (λ e. q)) in
+          (λ m q. up-by (t .fl) n (withPending (t .fl n) false) (λ (z : Named). z ≡ f1) m (λ e. flag) (λ e. q)) (λ m z q. refl) in
           record {
             inside = let-out g X x n ix (rests-clean g st (x .queue) (x .dep) (x .sub) n (x .fl n) (x .gone n) (x .done n) (x .rest n) (x .subs n) h r now (w .inside .gone-kind n h r) (rt .tail) (rt .few));
             frame = frame-then g (Low g (suc (rank n))) n s t x (i .lists) (w .inside .lists) wide f;
             clean = now;
             changed = λ q. false≢true q;
           })
-        where
-          apart : (d : ℕ) → d < g .size → Goes g d n → X d → ⊥
-          apart d hd gd x = let q = gd .of-computed kn in let a = gd .lower q in let b = ab d x q in omega arith
 
       pub whole-inside : Freshened g st X s n (freshW fr s n)
       unfolding freshW

@@ -1,4 +1,4 @@
--- Batches over words are the list operations, given that reading is. Assumes nothing.
+-- Batches over words are the list operations. Assumes nothing.
 use mathlib.Core.Path.{_≡_, refl, sym, _∙_, subst}
 use mathlib.Core.Bool.{Bool, true, false}
 use mathlib.Core.List.{List, []}
@@ -28,9 +28,8 @@ use Rattle.structure.proofs.Chained.{chain-ext}
 use Rattle.structure.proofs.Lens.{ptr}
 use Rattle.structure.proofs.Held.{Shows, keep-kinds, keep-flags, keep-forms, keep-queue}
 use Rattle.structure.proofs.Steps.{Sees}
-use Rattle.structure.proofs.Ringed.{Ringed}
-use Rattle.structure.proofs.LogRows.{quiet-tells}
-use Rattle.structure.proofs.Writes.{TellsIf, flush-at}
+use Rattle.structure.proofs.LogRows.{quiet-leaves}
+use Rattle.structure.proofs.Writes.{LeavesIf, flush-at}
 
 -- ---- another depth
 module _ (ran : List ℕ) (t : Tab) (W C : List ℤ) (s : St) (d : ℕ) (r : Shows ran t W C s) where
@@ -91,18 +90,18 @@ start-sees ran x C s r h =
     (depth-shows ran (tab (x .nodes) (x .links)) (x .values) C s (suc (s .depth)) r))
 
 -- ---- a batch ends
-module _ (g : Given) (st : Static g) (C : List ℤ) (ring : Ringed g st C) (l : List ℤ) (x : State) (s : St) (i : Inside g nobody s) (q : s .stuck ≡ false) (blank : s .log ≡ []) (r : Sees [] x C s) where
+module _ (g : Given) (st : Static g) (C : List ℤ) (l : List ℤ) (x : State) (s : St) (i : Inside g nobody s) (q : s .stuck ≡ false) (blank : s .log ≡ []) (r : Sees [] x C s) where
   abbrev If : Ran → St → Type 0
-  If a t = TellsIf g st C ring l a t
+  If a t = LeavesIf g st C l a t
 
   ended : (d : ℕ) → If (flushedAt C (state (set (x .nodes) DEPTH d) (x .links) (x .values)) l d) (flushAt (withDepth s d) d)
   ended d =
-      flush-at g st C ring l (state (set (x .nodes) DEPTH d) (x .links) (x .values)) (withDepth s d) d
+      flush-at g st C l (state (set (x .nodes) DEPTH d) (x .links) (x .values)) (withDepth s d) d
       (others g nobody s i (s .cycle) (s .sto) (s .pend) d (s .log) (s .stuck)) q blank (depth-shows [] (tab (x .nodes) (x .links)) (x .values) C s d r)
 
-  pub end-tells : If (endedBatch C x l) (endAt s (s .depth))
+  pub end-leaves : If (endedBatch C x l) (endAt s (s .depth))
   unfolding endedBatch
-  end-tells = subst (λ (d : ℕ). If (by d (eqb d 0)) (endAt s (s .depth))) (sym (r .registers .depth)) (go (s .depth))
+  end-leaves = subst (λ (d : ℕ). If (by d (eqb d 0)) (endAt s (s .depth))) (sym (r .registers .depth)) (go (s .depth))
     where
       by : ℕ → Bool → Ran
       by d b = elim b [ true ↦ ranTo x l 0 | false ↦ flushedAt C (state (set (x .nodes) DEPTH (d - 1)) (x .links) (x .values)) l (d - 1) ]
@@ -118,6 +117,6 @@ module _ (g : Given) (st : Static g) (C : List ℤ) (ring : Ringed g st C) (l : 
 
       -- that it is stuck is in no table
       go : (d : ℕ) → If (by d (eqb d 0)) (endAt s d)
-      go zero = subst (λ (b : Bool). If (by 0 b) (stop s)) (sym (eq-eqb 0 0 refl)) (λ fit. quiet-tells l C x (stop s) blank (relogged [] (x .nodes) (x .links) (x .values) C s (s .log) true r))
+      go zero = subst (λ (b : Bool). If (by 0 b) (stop s)) (sym (eq-eqb 0 0 refl)) (λ fit. quiet-leaves l C x (stop s) blank (relogged [] (x .nodes) (x .links) (x .values) C s (s .log) true r))
       go (suc zero) = inner 0
       go (suc (suc d)) = inner (suc d)

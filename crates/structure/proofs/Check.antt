@@ -26,8 +26,7 @@ use Rattle.structure.proofs.Chained.{chain-at}
 use Rattle.structure.proofs.Lens.{ptr}
 use Rattle.structure.proofs.CutOut.{next-of}
 use Rattle.structure.proofs.FlagBytes.{has-dirty}
-use Rattle.structure.proofs.Marked.{flag-is, shows-marked}
-use Rattle.structure.proofs.Steps.{Sees}
+use Rattle.structure.proofs.Steps.{Sees, Tells, flags-are}
 
 abbrev pick : Bool → Told → Told → Told
 pick b x y = elim b [ true ↦ x | false ↦ y ]
@@ -47,15 +46,12 @@ module _ (ws : List ℤ) (r : Ring) (u : ℕ) (fr : St → ℕ → Ans) (ran : L
     pub changed : fr s d .yes ≡ true → Sees ran (dependencyBy ws r x d .after) C (told-others s d)
     pub unchanged : fr s d .yes ≡ false → Sees ran (dependencyBy ws r x d .after) C (asked s d) × P (asked s d)
 
-  abbrev Alike : Told → Ans → Type 0
-  Alike a b = (a .changed ≡ b .yes) × Sees ran (a .after) C (b .st)
-
   module _ (lists : (s : St) → P s → deps s u ≡ ds) (low : (s : St) → P s → u < s .size)
       (lower : (s : St) (l : ℕ) → P s → In l ds → ltb (s .dep l) u ≡ s .fl (s .dep l) .mutable)
       (asks : (x : State) (s : St) (l : ℕ) → In l ds → P s → Sees ran x C s → s .fl u .dirty ≡ false → s .fl (s .dep l) .mutable ≡ true → Asks x s (s .dep l)) where
     module _ (x : State) (s : St) (q : Sees ran x C s) (p : P s) where
       dirty-is : has (flagsOf (x .nodes) u) dirty ≡ s .fl u .dirty
-      dirty-is = ap (λ (z : ℕ). has z dirty) (flag-is ran (x .nodes) s (s .fl) (s .queue) (shows-marked ran (tab (x .nodes) (x .links)) (x .values) C s q) u (low s p)) ∙ has-dirty (s .fl u)
+      dirty-is = ap (λ (z : ℕ). has z dirty) (flags-are ran x C s u q (low s p)) ∙ has-dirty (s .fl u)
 
       already : (d : ℕ) → s .fl u .dirty ≡ true → dirtyBy ws r x u d ≡ told true x
       unfolding dirtyBy
@@ -66,7 +62,7 @@ module _ (ws : List ℤ) (r : Ring) (u : ℕ) (fr : St → ℕ → Ans) (ran : L
       by-rank d b e f =
           ap (λ (c : Bool). pick c (told true x) (pick (ltb d u) (dependencyBy ws r x d) (told false x))) (dirty-is ∙ e) ∙ ap (λ (c : Bool). pick c (dependencyBy ws r x d) (told false x)) f
 
-    check-turns : (ls before : List ℕ) (j : ℕ) (x : State) (s : St) → ds ≡ before ++ ls → length ls ≤ j → P s → Sees ran x C s → Alike (depsBy ws r u j x (firstWord ls)) (checkOn fr u s ls)
+    check-turns : (ls before : List ℕ) (j : ℕ) (x : State) (s : St) → ds ≡ before ++ ls → length ls ≤ j → P s → Sees ran x C s → Tells ran C (depsBy ws r u j x (firstWord ls)) (checkOn fr u s ls)
     unfolding depsBy checkOn onward
     check-turns [] before zero x s e few p q = (refl, q)
     check-turns [] before (suc j) x s e few p q = (refl, q)
@@ -79,39 +75,39 @@ module _ (ws : List ℤ) (r : Ring) (u : ℕ) (fr : St → ℕ → Ans) (ran : L
         next-of (tab (x .nodes) (x .links)) NEXT-DEP u DEPS l before ls (subst (Chain (ptr (tab (x .nodes) (x .links)) NEXT-DEP u DEPS) 0) (lists s p ∙ e) (q .deps .next u (low s p))) in
         let go : State → Told = λ y. depsBy ws r u j y (firstWord ls) in
         let word : Told → Told = λ t. pick (t .changed) (told true (t .after)) (go (t .after)) in
-        let Goal : Ans → Type 0 = λ b. Alike (word (dirtyBy ws r x u d)) b in
+        let Goal : Ans → Type 0 = λ b. Tells ran C (word (dirtyBy ws r x u d)) b in
         let more = check-turns ls (before ++ l ∷ []) j x s e′ (omega arith) p q in
-        subst (λ (z : ℕ). Alike (pick (dirtyBy ws r x u z .changed) (told true (dirtyBy ws r x u z .after)) (depsBy ws r u j (dirtyBy ws r x u z .after) (link (x .links) l NEXT-DEP))) (checkOn fr u s (l ∷ ls))) (sym (q .slots .dep l))
-        (subst (λ (z : ℕ). Alike (pick (dirtyBy ws r x u d .changed) (told true (dirtyBy ws r x u d .after)) (depsBy ws r u j (dirtyBy ws r x u d .after) z)) (checkOn fr u s (l ∷ ls))) (sym next)
+        subst (λ (z : ℕ). Tells ran C (pick (dirtyBy ws r x u z .changed) (told true (dirtyBy ws r x u z .after)) (depsBy ws r u j (dirtyBy ws r x u z .after) (link (x .links) l NEXT-DEP))) (checkOn fr u s (l ∷ ls))) (sym (q .slots .dep l))
+        (subst (λ (z : ℕ). Tells ran C (pick (dirtyBy ws r x u d .changed) (told true (dirtyBy ws r x u d .after)) (depsBy ws r u j (dirtyBy ws r x u d .after) z)) (checkOn fr u s (l ∷ ls))) (sym next)
         (branch Goal (s .fl u .dirty)
-        (λ f. subst (λ (t : Told). Alike (word t) (ans s true)) (sym (already x s q p d f)) (refl, q))
+        (λ f. subst (λ (t : Told). Tells ran C (word t) (ans s true)) (sym (already x s q p d f)) (refl, q))
         (λ f. branch Goal (s .fl d .mutable)
-        (λ m. subst (λ (t : Told). Alike (word t) (onList s ls d (fr s d .yes))) (sym (by-rank x s q p d true f (lower s l p i ∙ m))) (turn j ls x s d (asks x s l i p q f m) (λ a b. check-turns ls (before ++ l ∷ []) j (dependencyBy ws r x d .after) (asked s d) e′ (omega arith) a b)))
-        (λ m. subst (λ (t : Told). Alike (word t) (checkOn fr u s ls)) (sym (by-rank x s q p d false f (lower s l p i ∙ m))) more))))
+        (λ m. subst (λ (t : Told). Tells ran C (word t) (onList s ls d (fr s d .yes))) (sym (by-rank x s q p d true f (lower s l p i ∙ m))) (turn j ls x s d (asks x s l i p q f m) (λ a b. check-turns ls (before ++ l ∷ []) j (dependencyBy ws r x d .after) (asked s d) e′ (omega arith) a b)))
+        (λ m. subst (λ (t : Told). Tells ran C (word t) (checkOn fr u s ls)) (sym (by-rank x s q p d false f (lower s l p i ∙ m))) more))))
       where
         onList : St → List ℕ → ℕ → Bool → Ans
         onList s ls d b = elim b [ true ↦ ans (told-others s d) true | false ↦ checkOn fr u (asked s d) ls ]
 
         turn : (j : ℕ) (ls : List ℕ) (x : State) (s : St) (d : ℕ) → Asks x s d
-            → (P (asked s d) → Sees ran (dependencyBy ws r x d .after) C (asked s d) → Alike (depsBy ws r u j (dependencyBy ws r x d .after) (firstWord ls)) (checkOn fr u (asked s d) ls))
-            → Alike (pick (dependencyBy ws r x d .changed) (told true (dependencyBy ws r x d .after)) (depsBy ws r u j (dependencyBy ws r x d .after) (firstWord ls))) (onList s ls d (fr s d .yes))
+            → (P (asked s d) → Sees ran (dependencyBy ws r x d .after) C (asked s d) → Tells ran C (depsBy ws r u j (dependencyBy ws r x d .after) (firstWord ls)) (checkOn fr u (asked s d) ls))
+            → Tells ran C (pick (dependencyBy ws r x d .changed) (told true (dependencyBy ws r x d .after)) (depsBy ws r u j (dependencyBy ws r x d .after) (firstWord ls))) (onList s ls d (fr s d .yes))
         turn j ls x s d a h =
-            subst (λ (b : Bool). Alike (pick b (told true (dependencyBy ws r x d .after)) (depsBy ws r u j (dependencyBy ws r x d .after) (firstWord ls))) (onList s ls d (fr s d .yes))) (sym (a .same))
+            subst (λ (b : Bool). Tells ran C (pick b (told true (dependencyBy ws r x d .after)) (depsBy ws r u j (dependencyBy ws r x d .after) (firstWord ls))) (onList s ls d (fr s d .yes))) (sym (a .same))
             (at (fr s d .yes) refl)
           where
-            at : (b : Bool) → fr s d .yes ≡ b → Alike (pick b (told true (dependencyBy ws r x d .after)) (depsBy ws r u j (dependencyBy ws r x d .after) (firstWord ls))) (onList s ls d b)
+            at : (b : Bool) → fr s d .yes ≡ b → Tells ran C (pick b (told true (dependencyBy ws r x d .after)) (depsBy ws r u j (dependencyBy ws r x d .after) (firstWord ls))) (onList s ls d b)
             at true e = (refl, a .changed e)
             at false e = h (a .unchanged e .1) (a .unchanged e .0)
 
     -- there is something to check
-    pub check-sim : (x : State) (s : St) → P s → Sees ran x C s → (ds ≡ [] → ⊥) → length ds ≤ s .room .slots → Alike (checkedBy ws r x u) (checkW fr s u)
+    pub check-sim : (x : State) (s : St) → P s → Sees ran x C s → (ds ≡ [] → ⊥) → length ds ≤ s .room .slots → Tells ran C (checkedBy ws r x u) (checkW fr s u)
     unfolding checkedBy checkW wordAt
     check-sim x s p q some few =
         let e = lists s p in
         let rows = q .lengths .of-links in
         let n = ap length e in
         let head : node (x .nodes) u DEPS ≡ firstWord (deps s u) = chain-at (wordAt (x .nodes) (x .links) NEXT-DEP u DEPS) 0 [] (deps s u) (q .deps .next u (low s p)) in
-        branch (Alike (depsBy ws r u (linkRows (x .links)) x (node (x .nodes) u DEPS))) (isNil (deps s u))
+        branch (Tells ran C (depsBy ws r u (linkRows (x .links)) x (node (x .nodes) u DEPS))) (isNil (deps s u))
         (λ z. absurd (some (sym e ∙ isNil-true (deps s u) z)))
-        (λ z. subst (λ (y : ℕ). Alike (depsBy ws r u (linkRows (x .links)) x y) (checkOn fr u s (deps s u))) (sym head)
+        (λ z. subst (λ (y : ℕ). Tells ran C (depsBy ws r u (linkRows (x .links)) x y) (checkOn fr u s (deps s u))) (sym head)
         (check-turns (deps s u) [] (linkRows (x .links)) x s (sym e) (omega arith) p q))

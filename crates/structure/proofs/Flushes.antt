@@ -1,11 +1,11 @@
--- The flush over words is the flush over lists, given that reading is: the queue is walked in its order, each run writes its row after the last, and then the queue is empty. Assumes nothing.
+-- The flush over words is the flush over lists: the queue is walked in its order, each run writes its row after the last, and then the queue is empty. Assumes nothing.
 use mathlib.Core.Path.{_≡_, refl, sym, ap, _∙_, subst}
-use mathlib.Core.Logic.{_⊎_, inl, inr}
+use mathlib.Core.Logic.{inl, inr}
 use mathlib.Core.Bool.{Bool, true, false, _&&_}
-use mathlib.Core.List.{List, [], _∷_, _++_, append-assoc, append-nil}
+use mathlib.Core.List.{List, [], _∷_, _++_, append-assoc}
 use Prim.Native.Nat.{ℕ, zero, suc, _+_, _*_, _^_, _<_, _≤_}
 use native.Mathlib.Omega.{arith}
-use lib.Dec.{leb, ltb}
+use lib.Dec.{leb}
 use lib.IntN.{ℤ}
 use lib.ListN.{length, getD, set, length-set, length-append, take, drop}
 use lib.Seq.{getD-set-same, getD-set-other, getD-append-seam}
@@ -17,7 +17,7 @@ use Rattle.primitive.proofs.RowLaws.{field-after-header}
 use Rattle.primitive.proofs.QueueLaws.{getD-queue, queue-emptied}
 use Rattle.links.specs.Table.{tab}
 use Rattle.reads.specs.Tables.{State, state}
-use Rattle.operations.specs.Log.{Ran, ranTo, rowed, rowsIn}
+use Rattle.operations.specs.Log.{Ran, ranTo, rowed}
 use Rattle.operations.proofs.RunLaws.{count-low}
 use Rattle.operations.specs.Runs.{ran, ranNext, flushedFrom, cleared, flushed}
 use Rattle.meaning.specs.State.{St, Row, within}
@@ -34,8 +34,7 @@ use Rattle.structure.proofs.Complete.{both}
 use Rattle.structure.proofs.Held.{keep-flags}
 use Rattle.structure.proofs.Marked.{Kept, Marked, shows-marked, marked-shows}
 use Rattle.structure.proofs.Steps.{Sees}
-use Rattle.structure.proofs.Ringed.{Ringed}
-use Rattle.structure.proofs.LogRows.{Tells, log-none, log-same, log-more}
+use Rattle.structure.proofs.LogRows.{Leaves, log-none, log-same, log-more}
 use Rattle.structure.proofs.Runs.{Wrote, run-sees}
 
 -- ---- the queue, and what a flush has done of it
@@ -95,7 +94,7 @@ nodes-few g st =
     let a = both (within (r .nodes) 1024) (within (r .slots) 8192 && within (r .cells) 8192) (st .room-within) in
     leb-true (r .nodes) 1024 (both (leb 1 (r .nodes)) (leb (r .nodes) 1024) (a .0) .1)
 
-module _ (g : Given) (st : Static g) (C : List ℤ) (ring : Ringed g st C) (l : List ℤ) where
+module _ (g : Given) (st : Static g) (C : List ℤ) (l : List ℤ) where
   -- a run writes its row after the last
   log-on : (e : ℕ) (s t : St) (m : List ℤ) (k : ℕ) (a : Ran) → e < 2 ^ 63 → Logged l (s .log) m k → length (t .log) * 2 ≤ length l → Wrote (drop (k * 2) m) e s a t → Logged l (t .log) (take (k * 2) m ++ a .log) (k + a .rows)
   log-on e s t m k a low w fit (inl z) =
@@ -128,7 +127,7 @@ module _ (g : Given) (st : Static g) (C : List ℤ) (ring : Ringed g st C) (l : 
       let low = y .0 in
       let t = run (withQueue s q) e in
       let p : Ran = ran C x (drop (n * 2) m) e in
-      let v = run-sees g st C ring (before ++ e ∷ []) e (y .0) (y .1) s q i is free x (popped-sees x C s before q e is r) (drop (n * 2) m) in
+      let v = run-sees g st C (before ++ e ∷ []) e (y .0) (y .1) s q i is free x (popped-sees x C s before q e is r) (drop (n * 2) m) in
       let j = run-inside g st e (y .0) (y .1) s q i is in
       let f = flush-runs q t in
       let fit′ : length (t .log) * 2 ≤ length l = let a = ap length (f .1) in let b = length-append (t .log) (f .0) in omega arith in
@@ -141,7 +140,7 @@ module _ (g : Given) (st : Static g) (C : List ℤ) (ring : Ringed g st C) (l : 
       (subst (λ (a : ℕ). Alike (flushedFrom C k a (ranTo (p .after) (take (n * 2) m ++ p .log) (n + p .rows))) (flushOn t q)) one
       (flush-turns q (before ++ e ∷ []) k (n + p .rows) (p .after) (take (n * 2) m ++ p .log) t (j .inside) (run-queues-nothing (withQueue s q) e) (j .stuck ∙ free) (omega arith) (v .0) w′ fit)))
 
-  pub flush-sees : (x : State) (s : St) → Inside g nobody s → s .stuck ≡ false → s .log ≡ [] → length (flush s .log) * 2 ≤ length l → Sees [] x C s → Tells l C (flushed C x l) (flush s)
+  pub flush-sees : (x : State) (s : St) → Inside g nobody s → s .stuck ≡ false → s .log ≡ [] → length (flush s .log) * 2 ≤ length l → Sees [] x C s → Leaves l C (flushed C x l) (flush s)
   unfolding flushed cleared
   flush-sees x s i free blank fit r =
       let c = queue-count x C s [] r in

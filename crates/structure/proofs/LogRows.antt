@@ -2,10 +2,10 @@
 use mathlib.Core.Path.{_≡_, refl, sym, ap, ap₂, _∙_, subst}
 use mathlib.Core.Bool.{Bool, true, false}
 use mathlib.Core.List.{List, [], _∷_, _++_, append-assoc}
-use Prim.Native.Nat.{ℕ, suc, _+_, _*_, _%_, _^_, _<_, _≤_}
+use Prim.Native.Nat.{ℕ, _+_, _*_, _^_, _<_, _≤_}
 use native.Mathlib.Omega.{arith}
 use lib.IntN.{ℤ, pos}
-use lib.ListN.{length, take, drop, set, length-append, length-drop, take-append-drop}
+use lib.ListN.{length, take, drop, length-append, length-drop, take-append-drop}
 use lib.Seq.{take-at, drop-at, drop-drop}
 use borrow.Author.Tests.{le-leb}
 use Rattle.primitive.specs.declared.values.Value.{Value}
@@ -16,7 +16,7 @@ use Rattle.structure.specs.Logged.{wordsOf, Logged}
 use Rattle.structure.proofs.Steps.{Sees}
 
 -- what an operation left, over words and over lists: tables that represent the state, and its rows in the log l that was lent
-pub record Tells (l C : List ℤ) (a : Ran) (t : St) : Type 0 where
+pub record Leaves (l C : List ℤ) (a : Ran) (t : St) : Type 0 where
   pub sees : Sees [] (a .after) C t
   pub logs : Logged l (t .log) (a .log) (a .rows)
 
@@ -85,5 +85,5 @@ module _ (l : List ℤ) where
         }
 
 -- nothing ran
-pub quiet-tells : (l C : List ℤ) (x : State) (s : St) → s .log ≡ [] → Sees [] x C s → Tells l C (ranTo x l 0) s
-quiet-tells l C x s e r = record { sees = r; logs = subst (λ (rs : List Row). Logged l rs l 0) (sym e) (log-none l) }
+pub quiet-leaves : (l C : List ℤ) (x : State) (s : St) → s .log ≡ [] → Sees [] x C s → Leaves l C (ranTo x l 0) s
+quiet-leaves l C x s e r = record { sees = r; logs = subst (λ (rs : List Row). Logged l rs l 0) (sym e) (log-none l) }

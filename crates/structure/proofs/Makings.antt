@@ -1,9 +1,9 @@
 -- The making of nodes over words is the making of nodes over lists: a signal, a computed, a scope, and an effect up to its run. Assumes nothing.
 use mathlib.Core.Path.{_≡_, refl, sym, ap, _∙_, subst, fun-ext}
-use mathlib.Core.Bool.{true, false}
+use mathlib.Core.Bool.{false}
 use mathlib.Core.List.{List, []}
 use mathlib.Core.Option.{Option, none, some}
-use Prim.Native.Nat.{ℕ, zero, suc, min, _<_, _≤_}
+use Prim.Native.Nat.{ℕ, suc, min}
 use native.Mathlib.Omega.{arith}
 use lib.IntN.{ℤ, pos}
 use Rattle.primitive.specs.declared.flags.Named.{Named}
@@ -14,21 +14,20 @@ use Rattle.primitive.specs.Words.{SIGNAL, COMPUTED, EFFECT, SCOPE, LEVEL, node 
 use Rattle.formula.specs.Trees.{Tree, constant, written, names}
 use Rattle.formula.specs.Names.{tallest, tallestIn, heightIn, mostHeight}
 use Rattle.formula.proofs.Ends.{all-named}
-use Rattle.counts.specs.Depths.{mostOwnerDepth, depthUnder}
+use Rattle.counts.specs.Depths.{depthUnder}
 use Rattle.links.specs.Table.{tab}
-use Rattle.reads.specs.Tables.{State, state}
+use Rattle.reads.specs.Tables.{State}
 use Rattle.operations.specs.declared.making.Sort.{Sort}
 use Rattle.operations.specs.Making.{Made, made, make, ownedBy, owned, sort, bits, ownedSort, newSignal, newComputed, newScope}
 use Rattle.operations.specs.Runs.{running}
 use Rattle.meaning.specs.State.{St, Kind, signal, computed, effect, scope, readable, f0, f1, f6, nothing}
-use Rattle.meaning.specs.Engine.{tallest as tallestOf, heightOf, depthUnder as depthUnderOf, levelOf, node, owned as ownedL, newSignal as signalL, newComputed as computedL, newScope as scopeL}
-use Rattle.meaning.specs.Played.{byte}
+use Rattle.meaning.specs.Engine.{tallest as tallestOf, heightOf, depthUnder as depthUnderOf, node, owned as ownedL, newSignal as signalL, newComputed as computedL, newScope as scopeL}
 use Rattle.meaning.specs.WellFormed.{WellFormed}
 use Rattle.meaning.proofs.Laws.{false≢true}
 use Rattle.meaning.proofs.Inside.{nobody, also}
 use Rattle.meaning.proofs.Making.{Fits, G, new-static, new-inside}
 use Rattle.meaning.proofs.Made.{made as madeL}
-use Rattle.structure.specs.Rep.{kindWord, ownerWord, hasForm}
+use Rattle.structure.specs.Rep.{ownerWord}
 use Rattle.structure.proofs.WordLaws.{owner-of, tallest-same, depth-same}
 use Rattle.structure.proofs.Held.{inside-held}
 use Rattle.structure.proofs.Link.{link-shows}

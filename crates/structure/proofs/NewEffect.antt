@@ -1,4 +1,4 @@
--- A new effect with its first run, over words and over lists, given that reading is the same: its row is the first of the log. Assumes nothing.
+-- A new effect with its first run, over words and over lists: its row is the first of the log. Assumes nothing.
 use mathlib.Core.Path.{_≡_, refl, sym, ap, _∙_, subst}
 use mathlib.Core.Bool.{false}
 use mathlib.Core.List.{List, [], _∷_, _++_}
@@ -15,7 +15,7 @@ use Rattle.reads.specs.Tables.{State, state}
 use Rattle.reads.specs.Read.{evaluatedFor}
 use Rattle.operations.specs.Log.{Ran, ranTo, rowed, rowsIn}
 use Rattle.operations.specs.Runs.{running, endedRun}
-use Rattle.operations.specs.Making.{Made, make, owned, ownedSort, newEffect}
+use Rattle.operations.specs.Making.{Made, make, ownedSort, newEffect}
 use Rattle.meaning.specs.State.{St, effect, Row, f2, f6, nothing}
 use Rattle.meaning.specs.Setters.{setFl}
 use Rattle.meaning.specs.Reads.{evalBy, readW, fresh, evaluate}
@@ -32,10 +32,10 @@ use Rattle.meaning.proofs.Made.{Made as MadeL, made as madeL}
 use Rattle.structure.specs.Logged.{Logged}
 use Rattle.structure.specs.Rep.{ownerWord}
 use Rattle.structure.proofs.Stated.{relogged}
-use Rattle.structure.proofs.Held.{Held, inside-held}
+use Rattle.structure.proofs.Held.{inside-held}
 use Rattle.structure.proofs.Steps.{Sees}
-use Rattle.structure.proofs.Ringed.{Ringed}
-use Rattle.structure.proofs.LogRows.{Tells, log-none, log-more}
+use Rattle.structure.proofs.ReadSame.{ringed}
+use Rattle.structure.proofs.LogRows.{Leaves, log-none, log-more}
 use Rattle.structure.proofs.Runs.{ended-sees}
 use Rattle.structure.proofs.Flushes.{nodes-few}
 use Rattle.structure.proofs.Makings.{Makes, withOwner, effect-makes}
@@ -44,7 +44,7 @@ pub owned-log : (s : St) (n : ℕ) (o : Option ℕ) → ownedL s n o .log ≡ s 
 owned-log s n none = refl
 owned-log s n (some p) = ap (λ (f : Fixed). f .log) (link-still s n p 0 .same)
 
-module _ (ring : (g : Given) (st : Static g) (C : List ℤ) → Ringed g st C) (x : State) (C : List ℤ) (s : St) (r : Sees [] x C s) (w : WellFormed s) (free : s .stuck ≡ false) (blank : s .log ≡ []) (o : Option ℕ)
+module _ (x : State) (C : List ℤ) (s : St) (r : Sees [] x C s) (w : WellFormed s) (free : s .stuck ≡ false) (blank : s .log ≡ []) (o : Option ℕ)
     (ws : List ℤ) (t : Tree) (spelt : ws ≡ written t) (fits : Fits s effect t o) where
   abbrev n : ℕ
   n = s .size
@@ -79,7 +79,7 @@ module _ (ring : (g : Given) (st : Static g) (C : List ℤ) → Ringed g st C) (
   left = subst (λ (z : List ℕ). length (readLinks (g .kind) (X .dep) z) ≤ length (names (g .form n))) (sym (m .rest)) (omega arith)
 
   worked : Sees [] (evaluatedFor (Y .cells) (Y .after) n .after) (Y .cells) (evaluate X n .st) × (evaluatedFor (Y .cells) (Y .after) n .value ≡ evaluate X n .val) × (evaluate X n .st .fl n ≡ f6)
-  worked = ring g st (Y .cells) .evaluates [] (Y .after) X n hn kn (begin g st n hn kn X X (m .inside) (m .owns) (m .inside) (frame-same g (Near g st n) n X) (m .done) left) (m .stuck ∙ free) (m .flag) (y .sees)
+  worked = ringed g st (Y .cells) .evaluates [] (Y .after) X n hn kn (begin g st n hn kn X X (m .inside) (m .owns) (m .inside) (frame-same g (Near g st n) n X) (m .done) left) (m .stuck ∙ free) (m .flag) (y .sees)
 
   abbrev O : St
   O = logged (evaluate X n) n
@@ -110,9 +110,9 @@ module _ (ring : (g : Given) (st : Static g) (C : List ℤ) → Ringed g st C) (
       (subst (λ (v : Value). Logged l (row ∷ []) (rowed l n v) (rowsIn l)) (sym (worked .1))
       (subst (λ (k : ℕ). Logged l (row ∷ []) (rowed l n (row .worth)) k) (let e : 0 + rowsIn l ≡ rowsIn l = omega arith in e) (log-more l [] l 0 (log-none l) row fit few)))
 
-  pub effect-tells : (l : List ℤ) → length (effectL s o t .log) * 2 ≤ length l → Tells l (newEffect x C l (ownerWord o) ws .cells) (newEffect x C l (ownerWord o) ws .ran) (effectL s o t) × (newEffect x C l (ownerWord o) ws .number ≡ n)
+  pub effect-leaves : (l : List ℤ) → length (effectL s o t .log) * 2 ≤ length l → Leaves l (newEffect x C l (ownerWord o) ws .cells) (newEffect x C l (ownerWord o) ws .ran) (effectL s o t) × (newEffect x C l (ownerWord o) ws .number ≡ n)
   unfolding newEffect effectL
-  effect-tells l fit =
+  effect-leaves l fit =
       let e = y .number in
       let v : ℕ → Ran = λ k. let a = evaluatedFor (Y .cells) (Y .after) k in ranTo (state (endedRun (a .after .nodes) k) (a .after .links) (a .after .values)) (rowed l k (a .value)) (rowsIn l) in
-      (subst (λ (k : ℕ). Tells l (Y .cells) (v k) (setFl O n f2)) (sym e) (record { sees = ended; logs = logs l (subst (λ (rs : List Row). length rs * 2 ≤ length l) log-is fit) }), e)
+      (subst (λ (k : ℕ). Leaves l (Y .cells) (v k) (setFl O n f2)) (sym e) (record { sees = ended; logs = logs l (subst (λ (rs : List Row). length rs * 2 ≤ length l) log-is fit) }), e)

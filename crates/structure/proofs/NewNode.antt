@@ -1,11 +1,11 @@
 -- One node more over words is one node more over lists: tables that represented the state before represent the state after, and the number is the next one. Assumes nothing.
 use mathlib.Core.Path.{_≡_, refl, sym, ap, ap₂, _∙_, subst}
 use mathlib.Core.Bool.{Bool, true, false, not, _&&_}
-use mathlib.Core.List.{List, [], _∷_, _++_}
+use mathlib.Core.List.{List, [], _++_}
 use mathlib.Core.Option.{Option}
-use Prim.Native.Nat.{ℕ, zero, suc, _+_, _*_, _/_, _%_, _-_, _<_, _≤_}
+use Prim.Native.Nat.{ℕ, zero, suc, _+_, _*_, _/_, _%_, _<_, _≤_}
 use native.Mathlib.Omega.{arith}
-use lib.Dec.{eqb, leb, ltb}
+use lib.Dec.{eqb}
 use lib.IntN.{ℤ, pos}
 use lib.ListN.{length, getD, set, take, drop}
 use lib.Seq.{take-take}
@@ -14,13 +14,11 @@ use Rattle.primitive.specs.declared.flags.Named.{Named}
 use Rattle.primitive.specs.declared.values.Value.{Value}
 use Rattle.primitive.specs.Flags.{named}
 use Rattle.primitive.specs.Words.{COUNT, USED, DEPTH, QUEUE, FLAGS, KIND, GONE, DEPS, DEPS-TAIL, SUBS, SUBS-TAIL, START, CELLS, READS, OWNER, LEVEL, NEXT-DEP, PREV-DEP, PREV-SUB, NEXT-SUB, node as word, link, nodeRows}
-use Rattle.formula.specs.Trees.{Tree, constant, written, size, names}
+use Rattle.formula.specs.Trees.{Tree, constant, written, size}
 use Rattle.formula.specs.Names.{readCells}
 use Rattle.formula.proofs.Written.{length-written}
 use Rattle.formula.proofs.Ends.{read-cells}
 use Rattle.lists.specs.Sum.{bit}
-use Rattle.described.specs.Formulas.{ownCells}
-use Rattle.described.specs.Whole.{usedCells}
 use Rattle.refusals.specs.Sight.{kindOf}
 use Rattle.reads.specs.Tables.{State, state, setCurrent}
 use Rattle.operations.specs.declared.making.Sort.{Sort}

@@ -1,9 +1,9 @@
--- An accepted command over words is the command over lists, given that reading is: one case each of the ten. Assumes nothing.
+-- An accepted command over words is the command over lists: one case each of the ten. Assumes nothing.
 use mathlib.Core.Path.{_≡_, refl, sym, ap, _∙_, subst}
-use mathlib.Core.Bool.{Bool, true, false, not}
+use mathlib.Core.Bool.{true, false, not}
 use mathlib.Core.List.{List, []}
 use mathlib.Core.Option.{Option, none, some, Option·getD}
-use Prim.Native.Nat.{ℕ, suc, _*_, _^_, _<_, _≤_}
+use Prim.Native.Nat.{ℕ, _*_, _≤_}
 use native.Mathlib.Omega.{arith}
 use lib.IntN.{ℤ, pos, negsuc}
 use lib.ListN.{length, drop}
@@ -12,12 +12,12 @@ use Rattle.primitive.specs.declared.values.Value.{Value}
 use Rattle.primitive.specs.Values.{value}
 use Rattle.formula.specs.Trees.{Tree, constant, written, names}
 use Rattle.links.specs.Table.{tab}
-use Rattle.reads.specs.Tables.{State, state}
+use Rattle.reads.specs.Tables.{State}
 use Rattle.refusals.specs.Commands.{brief, told}
 use Rattle.refusals.specs.Asked.{asked, fromOr, cellsFrom, formulaIn}
 use Rattle.reads.specs.Read.{readOf as readIn}
 use Rattle.refusals.proofs.CommandLaws.{told-is}
-use Rattle.operations.specs.Log.{Ran, ranTo, numberWord}
+use Rattle.operations.specs.Log.{ranTo, numberWord}
 use Rattle.operations.specs.Making.{Made, newScope as newScopeW, newEffect as newEffectW}
 use Rattle.engine.specs.Perform.{Done, done, numbered, performed, ownerWord}
 use Rattle.meaning.specs.State.{St, scope, readable, f0, nothing}
@@ -38,13 +38,13 @@ use Rattle.structure.specs.Rep.{ownerWord as wordOf}
 use Rattle.structure.proofs.Stated.{relogged}
 use Rattle.structure.proofs.Dispose.{dispose-shows}
 use Rattle.structure.proofs.Steps.{Sees}
-use Rattle.structure.proofs.Ringed.{Ringed}
-use Rattle.structure.proofs.LogRows.{Tells, number-is, quiet-tells}
+use Rattle.structure.proofs.ReadSame.{ringed}
+use Rattle.structure.proofs.LogRows.{Leaves, number-is, quiet-leaves}
 use Rattle.structure.proofs.Flushes.{nodes-few}
-use Rattle.structure.proofs.Writes.{store-tells, add-tells}
-use Rattle.structure.proofs.Batch.{start-sees, end-tells}
+use Rattle.structure.proofs.Writes.{store-leaves, add-leaves}
+use Rattle.structure.proofs.Batch.{start-sees, end-leaves}
 use Rattle.structure.proofs.Makings.{Makes, signal-makes, computed-makes, scope-makes}
-use Rattle.structure.proofs.NewEffect.{owned-log, effect-tells}
+use Rattle.structure.proofs.NewEffect.{owned-log, effect-leaves}
 
 -- ---- the cells of a command
 -- what follows the code, or the owner, is the formula
@@ -87,9 +87,9 @@ owner-is (negsuc n) = refl
 -- ---- what is done, and what the lists do
 pub record Performs (l : List ℤ) (d : Done) (p : DoneL) : Type 0 where
   pub value : d .value ≡ p .val .word
-  pub tells : Tells l (d .cells) (d .ran) (p .st)
+  pub leaves : Leaves l (d .cells) (d .ran) (p .st)
 
-module _ (ring : (g : Given) (st : Static g) (C : List ℤ) → Ringed g st C) (x : State) (C l : List ℤ) (s : St) (rows : ℕ) (r : Sees [] x C s) (w : WellFormed s) (free : s .stuck ≡ false) where
+module _ (x : State) (C l : List ℤ) (s : St) (rows : ℕ) (r : Sees [] x C s) (w : WellFormed s) (free : s .stuck ≡ false) where
   abbrev S : St
   S = withLog s []
 
@@ -114,11 +114,11 @@ module _ (ring : (g : Given) (st : Static g) (C : List ℤ) → Ringed g st C) (
 
   numbers : (m : Made) (t : St) → t .log ≡ [] → Makes m S t → Performs l (numbered l m) (back t (number S))
   unfolding numbered
-  numbers m t e k = record { value = number-word (m .number) (k .number); tells = quiet-tells l (m .cells) (m .after) t e (k .sees) }
+  numbers m t e k = record { value = number-word (m .number) (k .number); leaves = quiet-leaves l (m .cells) (m .after) t e (k .sees) }
 
   -- nothing ran, and the value is 0
-  stills : (y : State) (t : St) → Still S t → Sees [] y C t → Tells l C (ranTo y l 0) t
-  stills y t k z = quiet-tells l C y t (ap (λ (f : Fixed). f .log) (k .same)) z
+  stills : (y : State) (t : St) → Still S t → Sees [] y C t → Leaves l C (ranTo y l 0) t
+  stills y t k z = quiet-leaves l C y t (ap (λ (f : Fixed). f .log) (k .same)) z
 
   module _ (ws : List ℤ) (fit : (c : Command) → commandOf ws ≡ some c → length (perform S c .st .log) * 2 ≤ length l) where
     pub performs : (c : Command) → commandOf ws ≡ some c → NoneHolds (table true (sightOf s rows) (some c)) → Performs l (performed x C l (brief (some c)) (formulaIn ws)) (perform S c)
@@ -130,8 +130,8 @@ module _ (ring : (g : Given) (st : Static g) (C : List ℤ) → Ringed g st C) (
     performs (makeEffect o cs) e h =
         let c = effect-cells ws cs o e in
         let t = formulaOf cs in
-        let k = effect-tells ring x C S rS wS free refl (ownerOf o) (formulaIn ws) t (c ∙ legal-written (sightOf s rows) cs (h 4)) (effect-fits s rows w o cs h) l (fit (makeEffect o cs) e) in
-        subst (λ (z : ℕ). Performs l (made-effect z) (back (newEffect S (ownerOf o) t) (number S))) (sym (owner-is o)) (record { value = number-word _ (k .1); tells = k .0 })
+        let k = effect-leaves x C S rS wS free refl (ownerOf o) (formulaIn ws) t (c ∙ legal-written (sightOf s rows) cs (h 4)) (effect-fits s rows w o cs h) l (fit (makeEffect o cs) e) in
+        subst (λ (z : ℕ). Performs l (made-effect z) (back (newEffect S (ownerOf o) t) (number S))) (sym (owner-is o)) (record { value = number-word _ (k .1); leaves = k .0 })
       where
         made-effect : ℕ → Done
         made-effect z = let k = newEffectW x C l z (formulaIn ws) in done (numberWord (k .number)) (k .ran) (k .cells)
@@ -140,16 +140,16 @@ module _ (ring : (g : Given) (st : Static g) (C : List ℤ) → Ringed g st C) (
         (numbers _ _ (owned-log (node S scope (constant (pos 0)) (ownerOf o) f0 nothing) (s .size) (ownerOf o)) (scope-makes x C S rS wS free (ownerOf o) (scope-fits s rows w o h)))
     performs (setTo n v) e h =
         let k = taken s rows w aSignal n (h 2) in
-        record { value = refl; tells = store-tells g st C (ring g st C) l x S (nodeOf n) (value v) i (k .0) (is-signal s rows w (s .kind (nodeOf n)) (k .1)) free refl rS (fit (setTo n v) e) }
+        record { value = refl; leaves = store-leaves g st C l x S (nodeOf n) (value v) i (k .0) (is-signal s rows w (s .kind (nodeOf n)) (k .1)) free refl rS (fit (setTo n v) e) }
     performs (addTo n d) e h =
         let k = taken s rows w aSignal n (h 2) in
-        record { value = refl; tells = add-tells g st C (ring g st C) l x S (nodeOf n) (value d) i (k .0) (is-signal s rows w (s .kind (nodeOf n)) (k .1)) free refl rS (fit (addTo n d) e) }
+        record { value = refl; leaves = add-leaves g st C l x S (nodeOf n) (value d) i (k .0) (is-signal s rows w (s .kind (nodeOf n)) (k .1)) free refl rS (fit (addTo n d) e) }
     performs (readOf n) e h =
         let k = taken s rows w readable n (h 2) in
-        let z = ring g st C .reads x S (nodeOf n) i (k .0) (k .1) free rS in
-        record { value = ap (λ (v : Value). v .word) (z .values .current (nodeOf n)); tells = stills _ _ (settle-ring Still renews-still S (nodeOf n)) z }
+        let z = ringed g st C .reads x S (nodeOf n) i (k .0) (k .1) free rS in
+        record { value = ap (λ (v : Value). v .word) (z .values .current (nodeOf n)); leaves = stills _ _ (settle-ring Still renews-still S (nodeOf n)) z }
     performs (disposeOf n) e h =
         let k = taken s rows w anOwner n (h 2) in
-        record { value = refl; tells = stills _ _ (dispose-ring Still drops-still S (nodeOf n)) (dispose-shows g st [] (x .values) C (tab (x .nodes) (x .links)) S (nodeOf n) i (k .0) (not-true (readable (s .kind (nodeOf n))) (k .1)) rS) }
-    performs batchStart e h = record { value = refl; tells = quiet-tells l C _ _ refl (start-sees [] x C S rS (leb-false mostDepth (s .depth) (h 7))) }
-    performs batchEnd e h = record { value = refl; tells = end-tells g st C (ring g st C) l x S i free refl rS (fit batchEnd e) }
+        record { value = refl; leaves = stills _ _ (dispose-ring Still drops-still S (nodeOf n)) (dispose-shows g st [] (x .values) C (tab (x .nodes) (x .links)) S (nodeOf n) i (k .0) (not-true (readable (s .kind (nodeOf n))) (k .1)) rS) }
+    performs batchStart e h = record { value = refl; leaves = quiet-leaves l C _ _ refl (start-sees [] x C S rS (leb-false mostDepth (s .depth) (h 7))) }
+    performs batchEnd e h = record { value = refl; leaves = end-leaves g st C l x S i free refl rS (fit batchEnd e) }

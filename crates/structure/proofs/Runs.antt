@@ -1,4 +1,4 @@
--- One run of an effect over words is one run over lists, given that reading is: the tables after it represent the state after it, and it writes the row that the lists have. Assumes nothing.
+-- One run of an effect over words is one run over lists: the tables after it represent the state after it, and it writes the row that the lists have. Assumes nothing.
 use mathlib.Core.Path.{_≡_, refl, sym, ap, _∙_, subst}
 use mathlib.Core.Logic.{_⊎_, inl, inr}
 use mathlib.Core.Bool.{Bool, true, false}
@@ -7,7 +7,6 @@ use Prim.Native.Nat.{ℕ, _%_, _<_}
 use native.Mathlib.Omega.{arith}
 use lib.IntN.{ℤ}
 use Rattle.primitive.specs.declared.flags.Named.{Named}
-use Rattle.primitive.specs.declared.values.Value.{Value}
 use Rattle.primitive.specs.Flags.{bit, named}
 use Rattle.links.specs.Table.{tab}
 use Rattle.marks.specs.Fields.{flagsOf, setFlags, watching, recursedCheck, dirty, pending, has, without}
@@ -22,10 +21,10 @@ use Rattle.meaning.specs.Reads.{check, evaluate}
 use Rattle.meaning.specs.Engine.{logged, rerun, run}
 use Rattle.meaning.specs.Played.{byte}
 use Rattle.meaning.specs.WellFormed.{In, readLinks, EffectFlags, watching as watches, pushed, pending as waits, dirty as soiled}
-use Rattle.meaning.proofs.Laws.{clash, either, branch, up-same}
+use Rattle.meaning.proofs.Laws.{clash, either, up-same}
 use Rattle.meaning.proofs.Rings.{purge-ring, evaluate-ring, check-ring}
 use Rattle.meaning.proofs.Still.{Given, Fixed, Still, drops-still, renews-still}
-use Rattle.meaning.proofs.Inside.{nobody, also, Static, Inside, Under}
+use Rattle.meaning.proofs.Inside.{nobody, Static, Inside, Under}
 use Rattle.meaning.proofs.Running.{Run, Lies, begun, rerun-begins, rerun-ends, popped, was, lies, popped-open, has-deps, checked as checkedL, lies-checked}
 use Rattle.structure.proofs.Stated.{relogged}
 use Rattle.structure.proofs.Held.{Held, inside-held}
@@ -35,7 +34,7 @@ use Rattle.structure.proofs.Dispose.{purge-shows}
 use Rattle.structure.proofs.FlagBytes.{has-dirty, has-pending}
 use Rattle.structure.proofs.Marked.{flag-is, shows-marked}
 use Rattle.structure.proofs.Steps.{Sees, begun-by}
-use Rattle.structure.proofs.Ringed.{Ringed}
+use Rattle.structure.proofs.ReadSame.{ringed}
 
 -- the run e is over, and e watches
 pub ended-sees : (before : List ℕ) (x : State) (C : List ℤ) (s : St) (e : ℕ) → Held s → Sees before x C s → e < s .size → s .fl e ≡ f6 → Sees before (state (endedRun (x .nodes) e) (x .links) (x .values)) C (setFl s e f2)
@@ -48,7 +47,7 @@ ended-sees before x C s e w r low six =
 abbrev pub Wrote : List ℤ → ℕ → St → Ran → St → Type 0
 Wrote l e s a t = ((a .log ≡ l) × (a .rows ≡ 0) × (t .log ≡ s .log)) ⊎ ((r : Row) × (r .who ≡ e) × (a .log ≡ rowed l e (r .worth)) × (a .rows ≡ rowsIn l) × (t .log ≡ s .log ++ r ∷ []))
 
-module _ (g : Given) (st : Static g) (C : List ℤ) (ring : Ringed g st C) (before : List ℕ) (e : ℕ) (he : e < g .size) (ke : g .kind e ≡ effect) where
+module _ (g : Given) (st : Static g) (C : List ℤ) (before : List ℕ) (e : ℕ) (he : e < g .size) (ke : g .kind e ≡ effect) where
   low-in : (t : St) → Inside g (Run g st e) t → e < t .size
   low-in t i = subst (λ (z : Given). e < z .size) (sym (i .same)) he
 
@@ -68,7 +67,7 @@ module _ (g : Given) (st : Static g) (C : List ℤ) (ring : Ringed g st C) (befo
     begins = begun-by before x C t e (inside-held g (Run g st e) t st i) r (low-in t i) 6 f6 refl refl
 
     worked : Sees before (evaluatedFor C (begunRun x e) e .after) C (evaluate t₁ e .st) × (evaluatedFor C (begunRun x e) e .value ≡ evaluate t₁ e .val) × (evaluate t₁ e .st .fl e ≡ f6)
-    worked = ring .evaluates before (begunRun x e) t₁ e he ke (rerun-begins g st e he ke t i l pd) free (up-same (t .fl) e f6) begins
+    worked = ringed g st C .evaluates before (begunRun x e) t₁ e he ke (rerun-begins g st e he ke t i l pd) free (up-same (t .fl) e f6) begins
 
     abbrev o : St
     o = logged (evaluate t₁ e) e
@@ -163,7 +162,7 @@ module _ (g : Given) (st : Static g) (C : List ℤ) (ring : Ringed g st C) (befo
     asked p =
         let z = waiting p in
         let t = check s′ e .st in
-        let c = ring .checks before x s′ e he ke i′ (popped-open g st e he ke s q i is) (has-deps g st e he ke s q i is (z .0) (z .1) p) free r in
+        let c = ringed g st C .checks before x s′ e he ke i′ (popped-open g st e he ke s q i is) (has-deps g st e he ke s q i is (z .0) (z .1) p) free r in
         let m = checkedL g st e he ke s q i is (z .0) (z .1) p in
         let k : t .log ≡ s .log = log-still s′ t (check-ring Still renews-still s′ e) in
         let pd : t .fl e .pending ≡ true = m .frame .pending e (λ a. let b = a .1 in omega arith) (λ a. clash (ap readable a) (ap readable ke)) ∙ p in

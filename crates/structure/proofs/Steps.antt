@@ -18,12 +18,12 @@ use Rattle.links.specs.Free.{isLive}
 use Rattle.links.specs.Link.{linked}
 use Rattle.links.specs.Table.{Tab, tab}
 use Rattle.marks.specs.Fields.{flagsOf, setFlags, recursedCheck, without}
-use Rattle.reads.specs.Tables.{State, state, currentOf, pendingOf, setCurrent, setPending, cycleOf, raised}
+use Rattle.reads.specs.Tables.{State, state, Told, currentOf, pendingOf, setCurrent, setPending, cycleOf, raised}
 use Rattle.reads.specs.Steps.{updatedSignal, begunFirst, begun, finishedFirst, finished, linkedTo}
 use Rattle.meaning.specs.State.{St, up, deps, f1, f5, raised as raisedTo}
 use Rattle.meaning.specs.Setters.{withCycle, setFl, setSto, setPend}
 use Rattle.meaning.specs.Links.{rewind, purge, lastOf, headOf, goesTo, isFrom, link as linkOf}
-use Rattle.meaning.specs.Reads.{updSignal}
+use Rattle.meaning.specs.Reads.{Ans, updSignal}
 use Rattle.meaning.specs.Played.{byte}
 use Rattle.meaning.proofs.Laws.{up-by}
 use Rattle.meaning.proofs.Still.{Given}
@@ -33,6 +33,7 @@ use Rattle.structure.proofs.Chained.{chain-ext, back-ext}
 use Rattle.structure.proofs.Held.{Held, Shows}
 use Rattle.structure.proofs.Stored.{held-rewind, rewind-shows, flag-shows}
 use Rattle.structure.proofs.Link.{link-shows}
+use Rattle.structure.proofs.Marked.{flag-is, shows-marked}
 use Rattle.structure.proofs.Ring.{Strict}
 use Rattle.structure.proofs.Dispose.{purge-shows}
 
@@ -168,6 +169,14 @@ cycle-shows ran t W C s r =
 -- ---- tables of three parts
 abbrev pub Sees : List ℕ → State → List ℤ → St → Type 0
 Sees ran x C s = RepAfter ran (x .nodes) (x .links) (x .values) C s
+
+-- and whether a value has changed
+abbrev pub Tells : List ℕ → List ℤ → Told → Ans → Type 0
+Tells ran C a b = (a .changed ≡ b .yes) × Sees ran (a .after) C (b .st)
+
+-- the flags of a node
+pub flags-are : (ran : List ℕ) (x : State) (C : List ℤ) (s : St) (n : ℕ) → Sees ran x C s → n < s .size → flagsOf (x .nodes) n ≡ byte (s .fl n)
+flags-are ran x C s n q h = flag-is ran (x .nodes) s (s .fl) (s .queue) (shows-marked ran (tab (x .nodes) (x .links)) (x .values) C s q) n h
 
 held-as : (s : St) (n : ℕ) (F : Named) → Held s → Held (setFl s n F)
 held-as s n F w = record { lists = w .lists; fit = w .fit }

@@ -3,5 +3,5 @@ pub mod Rep
 pub mod Reading
 pub mod Alike
 pub mod Logged
-pub mod Answers
+pub mod SameAnswer
 pub mod Histories
