@@ -275,24 +275,46 @@ module _ (g : Given) (st : Static g) where
           apart : (m : ℕ) → Under g e m × (m ≡ e → ⊥) → Run e m → ⊥
           apart m p (inr q) = p .1 q
 
-    rerun-inside : (s : St) → Inside g (Run e) s → Lies s e → s .fl e .pending ≡ true → (In e (s .queue) → ⊥) → Goes-on g nobody s (rerun s e) × Others s (rerun s e) × Disposed (rerun s e) × Spared s (rerun s e)
-    unfolding rerun
-    rerun-inside s i l pd nq =
-        let c = withCycle s (raised (s .cycle)) in
-        let s₁ = setFl (rewind c e) e f6 in
-        let ic : Inside g (Run e) c = others g (Run e) s i (raised (s .cycle)) (s .sto) (s .pend) (s .depth) (s .log) (s .stuck) in
-        let i₁ : Inside g (Run e) s₁ = flags-inside g (Run e) (rewind c e) e (rewind-inside g (Run e) c e ic (inr refl)) (inr refl) f6 (λ q. false≢true q) in
-        let f₁ : Frame g (Near g st e) (rank e) s s₁ = frame-flags g (Near g st e) e s s₁ refl refl refl refl refl refl
-        (λ m z. (up-other (s .done) e [] m (λ q. z (inr q)), up-other (s .rest) e (s .done e ++ s .rest e) m (λ q. z (inr q))))
-        (λ m z q. up-other (s .fl) e f6 m (λ x. z (inr x)))
-        (λ m q. kept m q) (λ m z q. refl) in
-        let all : s₁ .rest e ≡ s .done e = up-same (s .rest) e (s .done e ++ s .rest e) ∙ ap (λ (x : List ℕ). s .done e ++ x) (l .tail) ∙ append-nil (s .done e) in
-        let few : length (readLinks (g .kind) (s .dep) (s₁ .rest e)) ≤ reads-of g st e = subst (λ (x : List ℕ). length (readLinks (g .kind) (s .dep) x) ≤ reads-of g st e) (sym all) (l .few) in
-        subst (λ (t : Tree). let x = purge (setFl (logged (evalBy (readW (fresh (s .size)) e) t s₁) e) e f2) e in Goes-on g nobody s x × Others s x × Disposed x × Spared s x) (sym (ap (λ (z : Given). z .form e) (i .same)))
-        (later-run s s₁ i (l .owns) i₁ f₁ (up-same (s .done) e []) few nq)
-      where
-        kept : (m : ℕ) → s .fl m ≡ f1 → up (s .fl) e f6 m ≡ f1
-        kept m q = up-other (s .fl) e f6 m (λ x. clash (sym (ap (λ (z : Named). z .pending) (sym (ap (s .fl) x) ∙ q)) ∙ pd) refl) ∙ q
+    -- ---- a rerun: a new cycle, flags 6, and the cursor before the first link
+    abbrev pub begun : St → St
+    begun s = setFl (rewind (withCycle s (raised (s .cycle))) e) e f6
+
+    module _ (s : St) (i : Inside g (Run e) s) (l : Lies s e) (pd : s .fl e .pending ≡ true) where
+      i-begun : Inside g (Run e) (begun s)
+      i-begun =
+          let c = withCycle s (raised (s .cycle)) in
+          let ic : Inside g (Run e) c = others g (Run e) s i (raised (s .cycle)) (s .sto) (s .pend) (s .depth) (s .log) (s .stuck) in
+          flags-inside g (Run e) (rewind c e) e (rewind-inside g (Run e) c e ic (inr refl)) (inr refl) f6 (λ q. false≢true q)
+
+      f-begun : Frame g (Near g st e) (rank e) s (begun s)
+      f-begun = frame-flags g (Near g st e) e s (begun s) refl refl refl refl refl refl
+          (λ m z. (up-other (s .done) e [] m (λ q. z (inr q)), up-other (s .rest) e (s .done e ++ s .rest e) m (λ q. z (inr q))))
+          (λ m z q. up-other (s .fl) e f6 m (λ x. z (inr x)))
+          (λ m q. kept m q) (λ m z q. refl)
+        where
+          kept : (m : ℕ) → s .fl m ≡ f1 → up (s .fl) e f6 m ≡ f1
+          kept m q = up-other (s .fl) e f6 m (λ x. clash (sym (ap (λ (z : Named). z .pending) (sym (ap (s .fl) x) ∙ q)) ∙ pd) refl) ∙ q
+
+      few-begun : length (readLinks (g .kind) (s .dep) (begun s .rest e)) ≤ reads-of g st e
+      few-begun =
+          let all : begun s .rest e ≡ s .done e = up-same (s .rest) e (s .done e ++ s .rest e) ∙ ap (λ (x : List ℕ). s .done e ++ x) (l .tail) ∙ append-nil (s .done e) in
+          subst (λ (x : List ℕ). length (readLinks (g .kind) (s .dep) x) ≤ reads-of g st e) (sym all) (l .few)
+
+      form-is : s .form e ≡ g .form e
+      form-is = ap (λ (z : Given). z .form e) (i .same)
+
+      -- its evaluation begins, and ends before the purge
+      pub rerun-begins : During g st (Run e) e (begun s) 0 (begun s)
+      rerun-begins = begin s (begun s) i (l .owns) i-begun f-begun (up-same (s .done) e []) few-begun
+
+      pub rerun-ends : Inside g (Run e) (setFl (logged (evaluate (begun s) e) e) e f2)
+      rerun-ends = subst (λ (t : Tree). Inside g (Run e) (setFl (logged (evalBy (readW (fresh (s .size)) e) t (begun s)) e) e f2)) (sym form-is) (i-ended s (begun s) i (l .owns) i-begun f-begun (up-same (s .done) e []) few-begun)
+
+      rerun-inside : (In e (s .queue) → ⊥) → Goes-on g nobody s (rerun s e) × Others s (rerun s e) × Disposed (rerun s e) × Spared s (rerun s e)
+      unfolding rerun
+      rerun-inside nq =
+          subst (λ (t : Tree). let x = purge (setFl (logged (evalBy (readW (fresh (s .size)) e) t (begun s)) e) e f2) e in Goes-on g nobody s x × Others s x × Disposed x × Spared s x) (sym form-is)
+          (later-run s (begun s) i (l .owns) i-begun f-begun (up-same (s .done) e []) few-begun nq)
 
     -- ---- e is taken off the queue
     module _ (s : St) (q : List ℕ) (i : Inside g nobody s) (is : s .queue ≡ e ∷ q) where

@@ -2,6 +2,7 @@
 use mathlib.Core.Path.{_≡_, refl, ap}
 use mathlib.Core.Bool.{Bool, true, false, not, _&&_}
 use mathlib.Core.List.{List, [], _∷_, _++_, reverse}
+use mathlib.Core.Option.{none}
 use Prim.Native.Nat.{ℕ, zero, suc, _+_}
 use lib.Dec.{leb, ltb}
 use lib.ListN.{length}
@@ -9,6 +10,9 @@ use Rattle.meaning.specs.State.{St, effect, scope, unclean, recursing, d
 use Rattle.meaning.specs.Links.{isNil, several, spent, insert, unlinkN}
 use Rattle.meaning.specs.Marks.{Marks, halt, chain, effects, notify, mark, stackFull, prop, wakes, shallow}
 use Rattle.meaning.specs.Reads.{Ans, updW, sameSlots, steady, checkW, fresh}
+use Rattle.meaning.specs.Engine.{endAt}
+use Rattle.meaning.specs.Words.{batchEnd}
+use Rattle.meaning.specs.Commands.{perform, performAny}
 use Rattle.meaning.proofs.Laws.{clash, branch, or-first, or-last}
 
 -- ---- where

@@ -77,7 +77,7 @@ is-queue t l h p =
     let j : i < count t = omega (arith, length-entries t 0 (count t)) in
     getD-entries t 0 (count t) i j ∙ ap (entryAt t) (zero-add i) ∙ p i j)
 
-getD-queue : (t : List ℕ) (i : ℕ) → i < count t → getD (queueOf t) i 0 ≡ entryAt t i
+pub getD-queue : (t : List ℕ) (i : ℕ) → i < count t → getD (queueOf t) i 0 ≡ entryAt t i
 unfolding queueOf
 getD-queue t i h = getD-entries t 0 (count t) i h ∙ ap (entryAt t) (zero-add i)
 

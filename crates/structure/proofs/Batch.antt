@@ -1,4 +1,4 @@
--- Batches over words are the list operations, given that the flush is. Assumes nothing.
+-- Batches over words are the list operations. Assumes nothing.
 use mathlib.Core.Path.{_≡_, refl, sym, _∙_, subst}
 use mathlib.Core.Bool.{Bool, true, false}
 use mathlib.Core.List.{List, []}
@@ -14,21 +14,22 @@ use Rattle.primitive.proofs.RowLaws.{field-after-header}
 use Rattle.links.specs.Table.{Tab, tab}
 use Rattle.reads.specs.Tables.{State, state}
 use Rattle.operations.specs.Log.{Ran, ranTo}
-use Rattle.operations.specs.Runs.{flushed}
 use Rattle.operations.specs.Batches.{mostDepth, depthOf, started, flushedAt, endedBatch}
 use Rattle.meaning.specs.State.{St, deps}
 use Rattle.meaning.specs.Setters.{withDepth}
 use Rattle.meaning.specs.Links.{stop}
-use Rattle.meaning.specs.Engine.{flush, flushAt, start, endAt}
+use Rattle.meaning.specs.Engine.{flushAt, start, endAt}
 use Rattle.meaning.proofs.Still.{Given}
 use Rattle.meaning.proofs.Inside.{nobody, Static, Inside}
 use Rattle.meaning.proofs.Frames.{others}
 use Rattle.structure.specs.Rep.{wordAt}
+use Rattle.structure.proofs.Stated.{relogged}
 use Rattle.structure.proofs.Chained.{chain-ext}
 use Rattle.structure.proofs.Lens.{ptr}
 use Rattle.structure.proofs.Held.{Shows, keep-kinds, keep-flags, keep-forms, keep-queue}
 use Rattle.structure.proofs.Steps.{Sees}
-use Rattle.structure.proofs.Writes.{flush-at}
+use Rattle.structure.proofs.LogRows.{quiet-leaves}
+use Rattle.structure.proofs.Writes.{LeavesIf, flush-at}
 
 -- ---- another depth
 module _ (ran : List ℕ) (t : Tab) (W C : List ℤ) (s : St) (d : ℕ) (r : Shows ran t W C s) where
@@ -88,18 +89,19 @@ start-sees ran x C s r h =
     (subst (λ (b : Bool). Sees ran (state (elim b [ true ↦ set (x .nodes) DEPTH (suc (s .depth)) | false ↦ x .nodes ]) (x .links) (x .values)) C (start s)) (sym (lt-ltb (s .depth) mostDepth h))
     (depth-shows ran (tab (x .nodes) (x .links)) (x .values) C s (suc (s .depth)) r))
 
--- ---- a batch ends; what is asked of a flush is as in `Writes`
-module _ (g : Given) (st : Static g) (C : List ℤ)
-    (flushes : (x : State) (l : List ℤ) (s : St) → Inside g nobody s → s .stuck ≡ false → Sees [] x C s → Sees [] (flushed C x l .after) C (flush s)) where
-  ended : (x : State) (l : List ℤ) (s : St) (d : ℕ) → Inside g nobody s → s .stuck ≡ false → Sees [] x C s
-      → Sees [] (flushedAt C (state (set (x .nodes) DEPTH d) (x .links) (x .values)) l d .after) C (flushAt (withDepth s d) d)
-  ended x l s d i q r =
-      flush-at g st C flushes (state (set (x .nodes) DEPTH d) (x .links) (x .values)) l (withDepth s d) d
-      (others g nobody s i (s .cycle) (s .sto) (s .pend) d (s .log) (s .stuck)) q (depth-shows [] (tab (x .nodes) (x .links)) (x .values) C s d r)
+-- ---- a batch ends
+module _ (g : Given) (st : Static g) (C : List ℤ) (l : List ℤ) (x : State) (s : St) (i : Inside g nobody s) (q : s .stuck ≡ false) (blank : s .log ≡ []) (r : Sees [] x C s) where
+  abbrev If : Ran → St → Type 0
+  If a t = LeavesIf g st C l a t
 
-  pub end-sees : (x : State) (l : List ℤ) (s : St) → Inside g nobody s → s .stuck ≡ false → Sees [] x C s → Sees [] (endedBatch C x l .after) C (endAt s (s .depth))
+  ended : (d : ℕ) → If (flushedAt C (state (set (x .nodes) DEPTH d) (x .links) (x .values)) l d) (flushAt (withDepth s d) d)
+  ended d =
+      flush-at g st C l (state (set (x .nodes) DEPTH d) (x .links) (x .values)) (withDepth s d) d
+      (others g nobody s i (s .cycle) (s .sto) (s .pend) d (s .log) (s .stuck)) q blank (depth-shows [] (tab (x .nodes) (x .links)) (x .values) C s d r)
+
+  pub end-leaves : If (endedBatch C x l) (endAt s (s .depth))
   unfolding endedBatch
-  end-sees x l s i q r = subst (λ (d : ℕ). Sees [] (by d (eqb d 0) .after) C (endAt s (s .depth))) (sym (r .registers .depth)) (go (s .depth) refl)
+  end-leaves = subst (λ (d : ℕ). If (by d (eqb d 0)) (endAt s (s .depth))) (sym (r .registers .depth)) (go (s .depth))
     where
       by : ℕ → Bool → Ran
       by d b = elim b [ true ↦ ranTo x l 0 | false ↦ flushedAt C (state (set (x .nodes) DEPTH (d - 1)) (x .links) (x .values)) l (d - 1) ]
@@ -107,19 +109,14 @@ module _ (g : Given) (st : Static g) (C : List ℤ)
       less : (d : ℕ) → suc d - 1 ≡ d
       less d = omega arith
 
-      -- that it is stuck is in no table
-      stopped : Sees [] x C (stop s)
-      stopped = record { lengths = r .lengths; registers = r .registers; kinds = r .kinds; flags = r .flags; values = r .values; forms = r .forms; slots = r .slots; deps = r .deps; subs = r .subs; free = r .free; queue = r .queue }
+      -- one batch less
+      inner : (d : ℕ) → If (by (suc d) (eqb (suc d) 0)) (flushAt (withDepth s d) d)
+      inner d =
+          subst (λ (b : Bool). If (by (suc d) b) (flushAt (withDepth s d) d)) (sym (ne-eqb (suc d) 0 (λ z. omega arith)))
+          (subst (λ (z : ℕ). If (flushedAt C (state (set (x .nodes) DEPTH z) (x .links) (x .values)) l z) (flushAt (withDepth s d) d)) (sym (less d)) (ended d))
 
-      go : (d : ℕ) → s .depth ≡ d → Sees [] (by (s .depth) (eqb (s .depth) 0) .after) C (endAt s (s .depth))
-      go zero e =
-          subst (λ (d : ℕ). Sees [] (by d (eqb d 0) .after) C (endAt s d)) (sym e)
-          (subst (λ (b : Bool). Sees [] (by 0 b .after) C (stop s)) (sym (eq-eqb 0 0 refl)) stopped)
-      go (suc zero) e =
-          subst (λ (d : ℕ). Sees [] (by d (eqb d 0) .after) C (endAt s d)) (sym e)
-          (subst (λ (b : Bool). Sees [] (by 1 b .after) C (flush (withDepth s 0))) (sym (ne-eqb 1 0 (λ z. omega arith)))
-          (subst (λ (d : ℕ). Sees [] (flushedAt C (state (set (x .nodes) DEPTH d) (x .links) (x .values)) l d .after) C (flush (withDepth s 0))) (sym (less 0)) (ended x l s 0 i q r)))
-      go (suc (suc d)) e =
-          subst (λ (d : ℕ). Sees [] (by d (eqb d 0) .after) C (endAt s d)) (sym e)
-          (subst (λ (b : Bool). Sees [] (by (suc (suc d)) b .after) C (withDepth s (suc d))) (sym (ne-eqb (suc (suc d)) 0 (λ z. omega arith)))
-          (subst (λ (z : ℕ). Sees [] (flushedAt C (state (set (x .nodes) DEPTH z) (x .links) (x .values)) l z .after) C (withDepth s (suc d))) (sym (less (suc d))) (ended x l s (suc d) i q r)))
+      -- that it is stuck is in no table
+      go : (d : ℕ) → If (by d (eqb d 0)) (endAt s d)
+      go zero = subst (λ (b : Bool). If (by 0 b) (stop s)) (sym (eq-eqb 0 0 refl)) (λ fit. quiet-leaves l C x (stop s) blank (relogged [] (x .nodes) (x .links) (x .values) C s (s .log) true r))
+      go (suc zero) = inner 0
+      go (suc (suc d)) = inner (suc d)

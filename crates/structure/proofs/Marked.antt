@@ -85,10 +85,10 @@ pub record Kept (N M : List ℕ) : Type 0 where
   pub header : (i : ℕ) → i < 16 → eqb i 12 ≡ false → getD M i 0 ≡ getD N i 0
   pub long : length M ≡ length N
 
-pub marked-shows : (ran : List ℕ) (t : Tab) (M : List ℕ) (W C : List ℤ) (s : St) (f : ℕ → Named) (q : List ℕ) (b : Bool) → Shows ran t W C s → Kept (t .nodes) M → Marked ran M s f q
+pub marked-shows : (old ran : List ℕ) (t : Tab) (M : List ℕ) (W C : List ℤ) (s : St) (f : ℕ → Named) (q : List ℕ) (b : Bool) → Shows old t W C s → Kept (t .nodes) M → Marked ran M s f q
     → Shows ran (tab M (t .links)) W C (withStuck (withQueue (withFl s f) q) b)
 unfolding wordAt
-marked-shows ran t M W C s f q b r k m = record {
+marked-shows old ran t M W C s f q b r k m = record {
   lengths = record { of-nodes = m .long; of-links = r .lengths .of-links; of-values = r .lengths .of-values; of-cells = r .lengths .of-cells };
   registers = record {
     count = k .header COUNT (omega arith) refl ∙ r .registers .count;

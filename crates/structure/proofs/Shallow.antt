@@ -123,8 +123,8 @@ module _ (g : Given) (st : Static g) (X : Set) (ran : List ℕ) (t : Tab) (W C :
   woken-shows = subst (λ (z : ℕ). Shows ran (tab (wokenOn (slotOf z) L N) L) W C (shallow s d)) (sym (shows-marked ran t W C s r .heads d low)) (go (s .subs d) refl)
     where
       go : (ls : List ℕ) → s .subs d ≡ ls → Shows ran (tab (wokenOn (slotOf (firstWord ls)) L N) L) W C (shallow s d)
-      go [] e = marked-shows ran t N W C s _ _ _ r same (subst (λ (y : List ℕ). Marked ran N s (soil (s .sub) y (s .fl)) (s .queue)) (sym e) (shows-marked ran t W C s r))
-      go (x ∷ ls) e = marked-shows ran t (shallowed L N x) W C s _ _ _ r (kept x) (from-first x ls e)
+      go [] e = marked-shows ran ran t N W C s _ _ _ r same (subst (λ (y : List ℕ). Marked ran N s (soil (s .sub) y (s .fl)) (s .queue)) (sym e) (shows-marked ran t W C s r))
+      go (x ∷ ls) e = marked-shows ran ran t (shallowed L N x) W C s _ _ _ r (kept x) (from-first x ls e)
 
   -- where there are several
   pub others-shows : Shows ran (tab (wokenOthers L N d) L) W C (elim (several (s .subs d)) [ true ↦ shallow s d | false ↦ s ])
@@ -142,4 +142,4 @@ module _ (g : Given) (st : Static g) (X : Set) (ran : List ℕ) (t : Tab) (W C :
       go (x ∷ y ∷ ls) e al =
           let z : nextSub L x ≡ suc y = subst (Along L) e al .0 in
           subst (λ (p : List ℕ). Shows ran (tab (othersOn (slotOf (nextSub L x)) L N x) L) W C (elim (several p) [ true ↦ shallow s d | false ↦ s ])) (sym e)
-          (subst (λ (p : ℕ). Shows ran (tab (othersOn (slotOf p) L N x) L) W C (shallow s d)) (sym z) (marked-shows ran t (shallowed L N x) W C s _ _ _ r (kept x) (from-first x (y ∷ ls) e)))
+          (subst (λ (p : ℕ). Shows ran (tab (othersOn (slotOf p) L N x) L) W C (shallow s d)) (sym z) (marked-shows ran ran t (shallowed L N x) W C s _ _ _ r (kept x) (from-first x (y ∷ ls) e)))

@@ -13,21 +13,22 @@ use Rattle.counts.specs.Counts.{nodeRoom, slotRoom, cellRoom}
 use Rattle.described.specs.Formulas.{ownCells}
 use Rattle.described.specs.Whole.{usedCells}
 use Rattle.joined.specs.AtRest.{subsOf, depsOf, freeOf}
-use Rattle.meaning.specs.State.{St, deps}
+use Rattle.meaning.specs.State.{St, Row, deps}
+use Rattle.meaning.specs.Setters.{withLog, withStuck}
 use Rattle.meaning.specs.Reserve.{reserve}
 use Rattle.meaning.specs.WellFormed.{In, WellFormed}
 use Rattle.meaning.specs.Words.{formulaOf}
 use Rattle.meaning.proofs.Laws.{either}
 use Rattle.meaning.proofs.Members.{none-nil, most-below}
 use Rattle.refusals.specs.Sight.{roomIn}
-use Rattle.structure.specs.Rep.{hasForm, wordAt, freeAt, Rep}
+use Rattle.structure.specs.Rep.{hasForm, wordAt, freeAt, RepAfter, Rep}
 use Rattle.structure.specs.Reading.{ofNode, ownerIn, orConstant, formIn, stateIn, plain}
 use Rattle.structure.proofs.ChainLaws.{chain-slots}
 use Rattle.structure.proofs.WordLaws.{owner-of, of-node, of-none, formula-of}
 
 -- neither record looks at the log, nor at `stuck`
-pub plain-rep : (N L : List ℕ) (W C : List ℤ) (s : St) → Rep N L W C s → Rep N L W C (plain s)
-plain-rep N L W C s r = record {
+pub relogged : (ran N L : List ℕ) (W C : List ℤ) (s : St) (l : List Row) (b : Bool) → RepAfter ran N L W C s → RepAfter ran N L W C (withStuck (withLog s l) b)
+relogged ran N L W C s l b r = record {
   lengths = r .lengths;
   registers = r .registers;
   kinds = r .kinds;
@@ -40,6 +41,9 @@ plain-rep N L W C s r = record {
   free = r .free;
   queue = r .queue;
 }
+
+pub plain-rep : (N L : List ℕ) (W C : List ℤ) (s : St) → Rep N L W C s → Rep N L W C (plain s)
+plain-rep N L W C s r = relogged [] N L W C s [] false r
 
 pub plain-well-formed : (s : St) → WellFormed s → WellFormed (plain s)
 unfolding reserve

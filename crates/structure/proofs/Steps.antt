@@ -39,31 +39,31 @@ use Rattle.structure.proofs.Dispose.{purge-shows}
 
 -- ---- values
 module _ (W : List ℤ) (n : ℕ) (v : Value) (h : n * 4 + 4 ≤ length W) where
-  current-at : (m : ℕ) (f : ℕ → Value) → ((x : ℕ) → currentOf W x ≡ f x) → currentOf (setCurrent W n v) m ≡ up f n v m
+  pub current-at : (m : ℕ) (f : ℕ → Value) → ((x : ℕ) → currentOf W x ≡ f x) → currentOf (setCurrent W n v) m ≡ up f n v m
   unfolding currentOf setCurrent valueAt setValue
   current-at m f k = up-by f n v (λ (z : Value). value (getD (set W (n * 2 * 2) (v .word)) (m * 2 * 2) (pos 0)) ≡ z) m
       (λ e. ap (λ (x : ℕ). value (getD (set W (n * 2 * 2) (v .word)) (x * 2 * 2) (pos 0))) e ∙ ap value (getD-set-same W (n * 2 * 2) (v .word) (pos 0) (omega arith)))
       (λ e. ap value (getD-set-other W (n * 2 * 2) (m * 2 * 2) (v .word) (pos 0) (λ q. e (omega arith))) ∙ k m)
 
-  current-kept : (m : ℕ) → pendingOf (setCurrent W n v) m ≡ pendingOf W m
+  pub current-kept : (m : ℕ) → pendingOf (setCurrent W n v) m ≡ pendingOf W m
   unfolding pendingOf setCurrent valueAt setValue
   current-kept m = ap value (getD-set-other W (n * 2 * 2) ((m * 2 + 1) * 2) (v .word) (pos 0) (λ q. omega arith))
 
-  pending-at : (m : ℕ) (f : ℕ → Value) → ((x : ℕ) → pendingOf W x ≡ f x) → pendingOf (setPending W n v) m ≡ up f n v m
+  pub pending-at : (m : ℕ) (f : ℕ → Value) → ((x : ℕ) → pendingOf W x ≡ f x) → pendingOf (setPending W n v) m ≡ up f n v m
   unfolding pendingOf setPending valueAt setValue
   pending-at m f k = up-by f n v (λ (z : Value). value (getD (set W ((n * 2 + 1) * 2) (v .word)) ((m * 2 + 1) * 2) (pos 0)) ≡ z) m
       (λ e. ap (λ (x : ℕ). value (getD (set W ((n * 2 + 1) * 2) (v .word)) ((x * 2 + 1) * 2) (pos 0))) e ∙ ap value (getD-set-same W ((n * 2 + 1) * 2) (v .word) (pos 0) (omega arith)))
       (λ e. ap value (getD-set-other W ((n * 2 + 1) * 2) ((m * 2 + 1) * 2) (v .word) (pos 0) (λ q. e (omega arith))) ∙ k m)
 
-  pending-kept : (m : ℕ) → currentOf (setPending W n v) m ≡ currentOf W m
+  pub pending-kept : (m : ℕ) → currentOf (setPending W n v) m ≡ currentOf W m
   unfolding currentOf setPending valueAt setValue
   pending-kept m = ap value (getD-set-other W ((n * 2 + 1) * 2) (m * 2 * 2) (v .word) (pos 0) (λ q. omega arith))
 
-  current-long : length (setCurrent W n v) ≡ length W
+  pub current-long : length (setCurrent W n v) ≡ length W
   unfolding setCurrent setValue
   current-long = length-set W (n * 2 * 2) (v .word)
 
-  pending-long : length (setPending W n v) ≡ length W
+  pub pending-long : length (setPending W n v) ≡ length W
   unfolding setPending setValue
   pending-long = length-set W ((n * 2 + 1) * 2) (v .word)
 
@@ -190,13 +190,17 @@ module _ (ran : List ℕ) (x : State) (C : List ℤ) (s : St) (n : ℕ) (w : Hel
   unfolding begunFirst named bit
   begun-first-sees = flag-shows ran t (x .values) C s n w r low 5 f5 refl refl
 
-  pub begun-sees : Sees ran (begun x n) C (setFl (rewind (withCycle s (raisedTo (s .cycle))) n) n f5)
-  unfolding begun begunFirst named bit
-  begun-sees =
+  -- a new cycle, and no dependency is reached yet; f is the byte of F
+  pub begun-by : (f : ℕ) (F : Named) → f ≡ byte F → named (f % 256) ≡ F → Sees ran (state (setFlags (setNode (x .nodes) n DEPS-TAIL 0) n f) (raised (x .links)) (x .values)) C (setFl (rewind (withCycle s (raisedTo (s .cycle))) n) n F)
+  begun-by f F p q =
       let s₁ : St = withCycle s (raisedTo (s .cycle)) in
       let w₁ : Held s₁ = record { lists = w .lists; fit = w .fit } in
       let r₁ : Shows ran (tab (x .nodes) (raised (x .links))) (x .values) C s₁ = cycle-shows ran t (x .values) C s r in
-      flag-shows ran (tab (setNode (x .nodes) n DEPS-TAIL 0) (raised (x .links))) (x .values) C (rewind s₁ n) n (held-rewind s₁ n w₁) (rewind-shows ran (tab (x .nodes) (raised (x .links))) (x .values) C s₁ n w₁ r₁ low) low 5 f5 refl refl
+      flag-shows ran (tab (setNode (x .nodes) n DEPS-TAIL 0) (raised (x .links))) (x .values) C (rewind s₁ n) n (held-rewind s₁ n w₁) (rewind-shows ran (tab (x .nodes) (raised (x .links))) (x .values) C s₁ n w₁ r₁ low) low f F p q
+
+  pub begun-sees : Sees ran (begun x n) C (setFl (rewind (withCycle s (raisedTo (s .cycle))) n) n f5)
+  unfolding begun begunFirst named bit
+  begun-sees = begun-by 5 f5 refl refl
 
   -- after it: n has the flags 5
   pub finished-first-sees : (v : Value) → s .fl n ≡ f5 → Sees ran (finishedFirst x n v) C (setFl (setSto s n v) n f1)

@@ -426,7 +426,7 @@ propagate-shows g st t W C s d x ls i r h rd un free few e =
     let m = both-walks g st L s (r .slots .sub) al few (turns s) .0 N (marksOf s) x ls [] (replicate 1024 0) 0 (linkRows L) i (shows-marked [] t W C s r)
     (λ l j. let y = o .subs-live l d (subst (In l) (sym e) j) in (y .0, ap (λ (z : ℕ). readable (g .kind z)) (y .1) ∙ rd)) tt (own .1) refl (length-replicate {A = ℕ} 1024 0) (omega arith) (omega arith)
     (subst (λ (z : List ℕ). prop s (turns s) (marksOf s) z [] .stuck ≡ false) e stuck) in
-    marked-shows [] t (walked L (linkRows L) N (place x (nextSub L x) (replicate 1024 0) 0)) W C s (prop s (turns s) (marksOf s) (s .subs d) [] .fl) (prop s (turns s) (marksOf s) (s .subs d) [] .queue) (prop s (turns s) (marksOf s) (s .subs d) [] .stuck) r
+    marked-shows [] [] t (walked L (linkRows L) N (place x (nextSub L x) (replicate 1024 0) 0)) W C s (prop s (turns s) (marksOf s) (s .subs d) [] .fl) (prop s (turns s) (marksOf s) (s .subs d) [] .queue) (prop s (turns s) (marksOf s) (s .subs d) [] .stuck) r
     (record { column = λ n f a b. column-propagated L N x n f a b; header = λ n h b. header-propagated L N x n h b; long = length-propagated L N x })
     (subst (λ (z : List ℕ). Marked [] (walked L (linkRows L) N (place x (nextSub L x) (replicate 1024 0) 0)) s (prop s (turns s) (marksOf s) z [] .fl) (prop s (turns s) (marksOf s) z [] .queue)) (sym e)
     (subst (λ (z : ℕ). Marked [] (walked L (linkRows L) N (place x z (replicate 1024 0) 0)) s (prop s (turns s) (marksOf s) (x ∷ ls) [] .fl) (prop s (turns s) (marksOf s) (x ∷ ls) [] .queue)) (sym (own .0)) m))
