@@ -12,7 +12,7 @@ use Rattle.cases.specs.Scripts.{Lent, left, answered}
 abbrev pub Engine : Type 0
 Engine = List ℕ → List ℕ → List ℤ → List ℤ → List ℤ → List ℤ → Answered
 
--- the contract of `command` is this equation
+-- the contract of `command` is this equation (crate `tight`, Spelled)
 abbrev pub Keeps : Engine → Type 0
 Keeps e = (n l : List ℕ) (v c g ws : List ℤ) → e n l v c g ws ≡ commandIn n l v c g ws
 

@@ -13,3 +13,4 @@ pub mod OfEngine
 pub mod OfText
 pub mod OfScript
 pub mod OfPacks
+pub mod Spelled
