@@ -8,7 +8,7 @@ use lib.IntN.{ℤ}
 use lib.ListN.{length}
 use borrow.Author.Tests.{ne-eqb, le-leb}
 use Rattle.counts.specs.Counts.{nodeRoom, slotRoom, cellRoom, mostNodes, mostSlots, mostCellRoom, withinMost, carryIn}
-use Rattle.counts.proofs.Capacities.{Sized, carried, carries}
+use Rattle.counts.proofs.Capacities.{carried, carries}
 use Rattle.operations.specs.Emptying.{emptying}
 use Rattle.host.specs.Sizes.{wordsFor, nodeWords, linkWords, valueWords, cellWords}
 

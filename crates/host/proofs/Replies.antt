@@ -22,7 +22,7 @@ module _ (n l : List ℕ) (v c g ws y : List ℤ) where
   unfolding callIn
   not-called h = rw (lt-leb _ _ h, callIn)
 
-  is-called : replyWords ≤ length y → answeredIn y (commandIn n l v c g ws) ≡ callIn n l v c g ws y
+  pub is-called : replyWords ≤ length y → answeredIn y (commandIn n l v c g ws) ≡ callIn n l v c g ws y
   unfolding callIn
   is-called h = rw (le-leb _ _ h, callIn)
 
