@@ -22,10 +22,10 @@ impl fmt::Display for Run {
 /// The answer of an accepted command. It borrows the log: take the runs before the next command writes over them.
 ///
 /// ```
-/// use simmerthread::{Room, Tables, read};
+/// use simmerthread::{Room, Tables};
 /// let mut tables = Tables::new(Room::PROGRAM).unwrap();
 /// let sale = tables.signal(5).unwrap();
-/// let answer = tables.effect(None, &read(sale)).unwrap();
+/// let answer = tables.effect(None, sale).unwrap();
 /// assert_eq!(answer.to_string(), "1, and 1 run: #1: 5");
 /// ```
 #[derive(Clone, Copy, Debug, PartialEq, Eq)]

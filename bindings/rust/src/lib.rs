@@ -6,7 +6,7 @@
 //! is determined by document 01 and proved. A refused command is an [`Err`] with a [`Refusal`], and has changed nothing.
 //!
 //! ```
-//! use simmerthread::{Refusal, Room, Run, Tables, choose, constant, difference, less, sum};
+//! use simmerthread::{Refusal, Room, Run, Tables, choose, difference, less, sum};
 //!
 //! # fn main() -> Result<(), Refusal> {
 //! let mut tables = Tables::new(Room::HOST).expect("the host's room is within the limits");
@@ -15,11 +15,11 @@
 //! let seller = tables.scope(None)?;
 //! let sale = tables.signal(4_000)?;
 //! let other = tables.signal(2_500)?;
-//! let balance = tables.computed(&sum(sale, other))?;
-//! let hold = tables.computed(&choose(less(balance, constant(8_000)), constant(1_000), constant(0)))?;
+//! let balance = tables.computed(sum(sale, other))?;
+//! let hold = tables.computed(choose(less(balance, 8_000), 1_000, 0))?;
 //!
 //! // The payout runs at once, and the seller owns it.
-//! let made = tables.effect(Some(seller), &difference(balance, hold))?;
+//! let made = tables.effect(Some(seller), difference(balance, hold))?;
 //! let payout = made.node();
 //! assert_eq!(made.runs().collect::<Vec<_>>(), [Run { effect: payout, value: 5_500 }]);
 //!

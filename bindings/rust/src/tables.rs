@@ -64,7 +64,7 @@ fn words<T: Default + Clone>(
 /// use simmerthread::{Refusal, Room, Tables, sum};
 /// let mut tables = Tables::new(Room::PROGRAM).unwrap();
 /// let sale = tables.signal(5)?;
-/// let total = tables.computed(&sum(sale, 1))?;
+/// let total = tables.computed(sum(sale, 1))?;
 /// assert_eq!(tables.read(total)?, 6);
 /// tables.set(sale, 7)?;
 /// assert_eq!(tables.read(total)?, 8);
@@ -193,17 +193,17 @@ impl Tables {
     }
 
     /// Makes a computed.
-    pub fn computed(&mut self, formula: &Formula) -> Result<Node, Refusal> {
-        self.command(&Command::Computed { formula: formula.clone() }).map(|answer| answer.node())
+    pub fn computed(&mut self, formula: impl Into<Formula>) -> Result<Node, Refusal> {
+        self.command(&Command::Computed { formula: formula.into() }).map(|answer| answer.node())
     }
 
     /// Makes an effect, which runs at once: the answer has its number and its first run.
     pub fn effect(
         &mut self,
         owner: Option<Node>,
-        formula: &Formula,
+        formula: impl Into<Formula>,
     ) -> Result<Answer<'_>, Refusal> {
-        self.command(&Command::Effect { owner, formula: formula.clone() })
+        self.command(&Command::Effect { owner, formula: formula.into() })
     }
 
     /// Makes a scope.

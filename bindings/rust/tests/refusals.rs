@@ -42,9 +42,9 @@ fn gone() {
 #[test]
 fn bad_formula() {
     let mut tables = tables();
-    assert_eq!(tables.computed(&read(Node(7))), Err(Refusal::Formula));
+    assert_eq!(tables.computed(Node(7)), Err(Refusal::Formula));
     let deep = (0..16).fold(constant(0), |formula, _| sum(formula, 1));
-    assert_eq!(tables.computed(&deep), Err(Refusal::Formula));
+    assert_eq!(tables.computed(deep), Err(Refusal::Formula));
 }
 
 #[test]
@@ -81,7 +81,7 @@ fn short_log_and_nothing_changed() {
     let mut tables = tables();
     let sale = tables.signal(1).unwrap();
     for _ in 0..3 {
-        tables.effect(None, &read(sale)).unwrap();
+        tables.effect(None, sale).unwrap();
     }
     assert_eq!(tables.set(sale, 2), Err(Refusal::Rows));
     assert_eq!(tables.read(sale), Ok(1));
