@@ -1,0 +1,135 @@
+//! Document 01's ten commands.
+
+use std::fmt;
+
+use crate::Formula;
+
+/// The number of a node. Nodes are numbered 0, 1, 2.. as made, and no number is used twice.
+#[derive(Clone, Copy, Debug, PartialEq, Eq, PartialOrd, Ord, Hash)]
+pub struct Node(pub i64);
+
+impl fmt::Display for Node {
+    fn fmt(&self, out: &mut fmt::Formatter<'_>) -> fmt::Result {
+        write!(out, "#{}", self.0)
+    }
+}
+
+/// A command as a value, to keep in a journal or to send later. [`Tables`](crate::Tables) has a method for each.
+///
+/// ```
+/// use simmerthread::{Command, Node, sum};
+/// let made = Command::Effect { owner: None, formula: sum(Node(0), 1) };
+/// assert_eq!(made.words(), [3, -1, 3, 0, 2, 0, 1, 1]);
+/// assert_eq!(made.to_string(), "effect sum(#0, 1)");
+/// ```
+#[derive(Clone, Debug, PartialEq, Eq, Hash)]
+pub enum Command {
+    /// A new signal, worth so much.
+    Signal {
+        /// What it is worth.
+        value: i64,
+    },
+    /// A new computed, not yet evaluated.
+    Computed {
+        /// What it works out.
+        formula: Formula,
+    },
+    /// A new effect; it runs at once.
+    Effect {
+        /// An effect or scope that it goes with, or none.
+        owner: Option<Node>,
+        /// What each run logs.
+        formula: Formula,
+    },
+    /// A new scope.
+    Scope {
+        /// An effect or scope that it goes with, or none.
+        owner: Option<Node>,
+    },
+    /// Sets a signal.
+    Set {
+        /// The signal.
+        node: Node,
+        /// Its new value.
+        value: i64,
+    },
+    /// Adds to a signal; it stops at the ends of the signed 64-bit range.
+    Add {
+        /// The signal.
+        node: Node,
+        /// How much.
+        amount: i64,
+    },
+    /// Reads a signal or computed.
+    Read {
+        /// The signal or computed.
+        node: Node,
+    },
+    /// Disposes of an effect or scope, and of all that it owns.
+    Dispose {
+        /// The effect or scope.
+        node: Node,
+    },
+    /// A batch starts: effects wait.
+    Start,
+    /// A batch ends; if it is the last that is open, the effects run.
+    End,
+}
+
+impl Command {
+    /// Document 01's words.
+    pub fn words(&self) -> Vec<i64> {
+        let mut words = Vec::new();
+        self.write_words(&mut words);
+        words
+    }
+
+    /// The same words into a list that may have room already.
+    pub(crate) fn write_words(&self, words: &mut Vec<i64>) {
+        words.clear();
+        match self {
+            Command::Signal { value } => words.extend([1, *value]),
+            Command::Computed { formula } => {
+                words.push(2);
+                words.extend(formula.words());
+            }
+            Command::Effect { owner, formula } => {
+                words.extend([3, owner_word(*owner)]);
+                words.extend(formula.words());
+            }
+            Command::Scope { owner } => words.extend([4, owner_word(*owner)]),
+            Command::Set { node, value } => words.extend([5, node.0, *value]),
+            Command::Add { node, amount } => words.extend([6, node.0, *amount]),
+            Command::Read { node } => words.extend([7, node.0]),
+            Command::Dispose { node } => words.extend([8, node.0]),
+            Command::Start => words.push(9),
+            Command::End => words.push(10),
+        }
+    }
+}
+
+/// -1 means none.
+fn owner_word(owner: Option<Node>) -> i64 {
+    owner.map_or(-1, |node| node.0)
+}
+
+impl fmt::Display for Command {
+    fn fmt(&self, out: &mut fmt::Formatter<'_>) -> fmt::Result {
+        match self {
+            Command::Signal { value } => write!(out, "signal {value}"),
+            Command::Computed { formula } => write!(out, "computed {formula}"),
+            Command::Effect { owner: None, formula } => write!(out, "effect {formula}"),
+            Command::Effect { owner: Some(owner), formula } => {
+                write!(out, "effect {formula} owned by {owner}")
+            }
+            Command::Scope { owner: None } => write!(out, "scope"),
+            Command::Scope { owner: Some(owner) } => write!(out, "scope owned by {owner}"),
+            Command::Set { node, value } => write!(out, "set {node} to {value}"),
+            Command::Add { node, amount } => write!(out, "add {amount} to {node}"),
+            Command::Read { node } => write!(out, "read {node}"),
+            Command::Dispose { node } => write!(out, "dispose of {node}"),
+            Command::Start => write!(out, "start"),
+            Command::End => write!(out, "end"),
+        }
+    }
+}

@@ -1,0 +1,243 @@
+//! The tables, and the calls of the library on them.
+
+use crate::{Answer, Command, Formula, Node, Refusal};
+
+mod library {
+    //! `include/simmerthread.h`: a slice is a pointer and a length in words.
+    #[rustfmt::skip]
+    unsafe extern "C" {
+        pub safe fn simmer_node_words(nodes: u64) -> u64;
+        pub safe fn simmer_value_words(nodes: u64) -> u64;
+        pub safe fn simmer_link_words(links: u64) -> u64;
+        pub safe fn simmer_cell_words(cells: u64) -> u64;
+        pub safe fn simmer_log_words(rows: u64) -> u64;
+        pub fn simmer_empty(
+            nodes: *mut u64, nodes_len: usize, links: *mut u64, links_len: usize,
+            values: *mut i64, values_len: usize, cells: *mut i64, cells_len: usize,
+        ) -> u64;
+        pub fn simmer_command(
+            nodes: *mut u64, nodes_len: usize, links: *mut u64, links_len: usize,
+            values: *mut i64, values_len: usize, cells: *mut i64, cells_len: usize,
+            log: *mut i64, log_len: usize, words: *const i64, words_len: usize,
+            reply: *mut i64, reply_len: usize,
+        ) -> u64;
+    }
+}
+
+/// Words of a reply: code, value, number of runs, and spare ones.
+const REPLY: usize = 8;
+
+/// How much the tables hold. Nothing grows: what is full is [`Refusal::Room`] or [`Refusal::Rows`].
+#[derive(Clone, Copy, Debug, PartialEq, Eq, Hash)]
+pub struct Room {
+    /// Nodes ever made, 1 to 1,024. Numbers are never reused.
+    pub nodes: usize,
+    /// Link slots, 1 to 8,192. Each read cell of a computed or live effect takes two, each live owned node one.
+    pub links: usize,
+    /// Formula cells ever written, 1 to 8,192.
+    pub cells: usize,
+    /// Rows of the log, 1 to 1,024. A flush wants as many as effects are live.
+    pub rows: usize,
+}
+
+impl Room {
+    /// The most there is: the payout host's.
+    pub const HOST: Room = Room { nodes: 1_024, links: 8_192, cells: 8_192, rows: 1_024 };
+    /// What the program `simmer` has.
+    pub const PROGRAM: Room = Room { nodes: 256, links: 1_024, cells: 2_048, rows: 256 };
+}
+
+/// Words for `count` records; none if the library says that it is no capacity.
+fn words<T: Default + Clone>(
+    words_for: extern "C" fn(u64) -> u64,
+    count: usize,
+) -> Option<Box<[T]>> {
+    match words_for(u64::try_from(count).ok()?) {
+        0 => None,
+        words => Some(vec![T::default(); usize::try_from(words).ok()?].into()),
+    }
+}
+
+/// The engine's tables and log. They are made once and never grow; a clone is a second engine in the same state.
+///
+/// ```
+/// use simmerthread::{Refusal, Room, Tables, sum};
+/// let mut tables = Tables::new(Room::PROGRAM).unwrap();
+/// let sale = tables.signal(5)?;
+/// let total = tables.computed(sum(sale, 1))?;
+/// assert_eq!(tables.read(total)?, 6);
+/// tables.set(sale, 7)?;
+/// assert_eq!(tables.read(total)?, 8);
+///
+/// // Refused: a computed isn't set. Nothing has changed.
+/// assert_eq!(tables.set(total, 0), Err(Refusal::Node));
+/// assert_eq!(tables.read(total)?, 8);
+/// # Ok::<(), Refusal>(())
+/// ```
+#[derive(Clone, Debug)]
+pub struct Tables {
+    nodes: Box<[u64]>,
+    links: Box<[u64]>,
+    values: Box<[i64]>,
+    cells: Box<[i64]>,
+    log: Box<[i64]>,
+    /// The words of the command being sent, kept for their room.
+    words: Vec<i64>,
+}
+
+impl Tables {
+    /// Empty tables; none if a capacity is outside its limits.
+    ///
+    /// ```
+    /// use simmerthread::{Room, Tables};
+    /// assert!(Tables::new(Room::HOST).is_some());
+    /// assert!(Tables::new(Room { nodes: 1_025, ..Room::HOST }).is_none());
+    /// ```
+    pub fn new(room: Room) -> Option<Tables> {
+        let mut tables = Tables {
+            nodes: words(library::simmer_node_words, room.nodes)?,
+            links: words(library::simmer_link_words, room.links)?,
+            values: words(library::simmer_value_words, room.nodes)?,
+            cells: words(library::simmer_cell_words, room.cells)?,
+            log: words(library::simmer_log_words, room.rows)?,
+            words: Vec::new(),
+        };
+        tables.empty();
+        Some(tables)
+    }
+
+    /// Forgets everything: no nodes, no open batch.
+    pub fn empty(&mut self) {
+        // SAFETY: each pointer is that of a boxed slice with the length beside it, the four are distinct, and `&mut self` keeps
+        // everybody else away during the call.
+        let code = unsafe {
+            library::simmer_empty(
+                self.nodes.as_mut_ptr(),
+                self.nodes.len(),
+                self.links.as_mut_ptr(),
+                self.links.len(),
+                self.values.as_mut_ptr(),
+                self.values.len(),
+                self.cells.as_mut_ptr(),
+                self.cells.len(),
+            )
+        };
+        assert_eq!(code, 0, "the lengths are those that the library named");
+    }
+
+    /// Sends a command as document 01's words, any at all.
+    ///
+    /// ```
+    /// use simmerthread::{Refusal, Room, Tables};
+    /// let mut tables = Tables::new(Room::PROGRAM).unwrap();
+    /// assert_eq!(tables.send(&[1, 5])?.value, 0);
+    /// assert_eq!(tables.send(&[77]), Err(Refusal::Command));
+    /// # Ok::<(), Refusal>(())
+    /// ```
+    pub fn send(&mut self, words: &[i64]) -> Result<Answer<'_>, Refusal> {
+        let (value, runs) = self.call(words)?;
+        Ok(self.answer(value, runs))
+    }
+
+    /// Sends a command.
+    pub fn command(&mut self, command: &Command) -> Result<Answer<'_>, Refusal> {
+        // The list is taken out meanwhile, since the call borrows all of the tables.
+        let mut words = std::mem::take(&mut self.words);
+        command.write_words(&mut words);
+        let called = self.call(&words);
+        self.words = words;
+        let (value, runs) = called?;
+        Ok(self.answer(value, runs))
+    }
+
+    /// The value returned, and how many rows of the log were written.
+    fn call(&mut self, words: &[i64]) -> Result<(i64, usize), Refusal> {
+        let mut reply = [0; REPLY];
+        // SAFETY: as in `empty`; the words and the reply are slices too, and no part of the tables: `words` is borrowed beside
+        // `&mut self`, the reply is a local.
+        let code = unsafe {
+            library::simmer_command(
+                self.nodes.as_mut_ptr(),
+                self.nodes.len(),
+                self.links.as_mut_ptr(),
+                self.links.len(),
+                self.values.as_mut_ptr(),
+                self.values.len(),
+                self.cells.as_mut_ptr(),
+                self.cells.len(),
+                self.log.as_mut_ptr(),
+                self.log.len(),
+                words.as_ptr(),
+                words.len(),
+                reply.as_mut_ptr(),
+                reply.len(),
+            )
+        };
+        let [_, value, runs, ..] = reply;
+        match code {
+            0 => Ok((value, usize::try_from(runs).expect("runs are counted from 0"))),
+            number => {
+                Err(Refusal::of(number)
+                    .expect("the reply is long enough, and nine refusals are all"))
+            }
+        }
+    }
+
+    fn answer(&self, value: i64, runs: usize) -> Answer<'_> {
+        Answer { value, rows: &self.log.as_chunks().0[..runs] }
+    }
+
+    /// Makes a signal.
+    pub fn signal(&mut self, value: i64) -> Result<Node, Refusal> {
+        self.command(&Command::Signal { value }).map(|answer| answer.node())
+    }
+
+    /// Makes a computed.
+    pub fn computed(&mut self, formula: impl Into<Formula>) -> Result<Node, Refusal> {
+        self.command(&Command::Computed { formula: formula.into() }).map(|answer| answer.node())
+    }
+
+    /// Makes an effect, which runs at once: the answer has its number and its first run.
+    pub fn effect(
+        &mut self,
+        owner: Option<Node>,
+        formula: impl Into<Formula>,
+    ) -> Result<Answer<'_>, Refusal> {
+        self.command(&Command::Effect { owner, formula: formula.into() })
+    }
+
+    /// Makes a scope.
+    pub fn scope(&mut self, owner: Option<Node>) -> Result<Node, Refusal> {
+        self.command(&Command::Scope { owner }).map(|answer| answer.node())
+    }
+
+    /// Sets a signal. Outside a batch, the effects run that have read something which now has another value.
+    pub fn set(&mut self, node: Node, value: i64) -> Result<Answer<'_>, Refusal> {
+        self.command(&Command::Set { node, value })
+    }
+
+    /// Adds to a signal; else as [`Tables::set`].
+    pub fn add(&mut self, node: Node, amount: i64) -> Result<Answer<'_>, Refusal> {
+        self.command(&Command::Add { node, amount })
+    }
+
+    /// What a signal or computed is worth.
+    pub fn read(&mut self, node: Node) -> Result<i64, Refusal> {
+        self.command(&Command::Read { node }).map(|answer| answer.value)
+    }
+
+    /// Disposes of an effect or scope, and of all that it owns.
+    pub fn dispose(&mut self, node: Node) -> Result<(), Refusal> {
+        self.command(&Command::Dispose { node }).map(|_| ())
+    }
+
+    /// Starts a batch: effects wait.
+    pub fn start(&mut self) -> Result<(), Refusal> {
+        self.command(&Command::Start).map(|_| ())
+    }
+
+    /// Ends a batch. If it was the last that is open, the effects run.
+    pub fn end(&mut self) -> Result<Answer<'_>, Refusal> {
+        self.command(&Command::End)
+    }
+}

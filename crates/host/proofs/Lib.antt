@@ -1,0 +1,4 @@
+pub mod Codes
+pub mod Fit
+pub mod Replies
+pub mod Rows

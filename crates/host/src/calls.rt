@@ -1,0 +1,62 @@
+// The two calls: emptying, and one command. The answer goes into a lent reply.
+use engine::command::command;
+use operations::emptying::empty;
+use operations::log::number_word;
+ghost use mathlib.Core.Path.{_≡_};
+ghost use Rattle.operations.specs.Emptying.{emptied, emptying};
+ghost use Rattle.host.specs.Calls.{replied, called, callIn};
+
+// Words of a reply: code, value, number of runs, and spare ones.
+const REPLY: usize = 8;
+
+// The answer where the lent reply is too short: no refusal, and nothing was done.
+const NO_REPLY: u64 = 255;
+
+// The first three words of a reply that has them.
+fn put_reply(reply: &mut [i64], code: u64, value: i64, runs: u64)
+    ensures { λ _. ⌜ now (reply .exit) ≡ replied (now (reply .entry)) code value runs ⌝ }
+{
+    if reply.len() < REPLY {
+        return;
+    }
+    let first = number_word(code);
+    let third = number_word(runs);
+    reply[0] = first;
+    reply[1] = value;
+    reply[2] = third;
+}
+
+// 1, and nothing is touched, where the lengths do not carry capacities; else 0.
+#[no_mangle]
+pub extern "C" fn simmer_empty(
+    nodes: &mut [u64],
+    links: &mut [u64],
+    values: &mut [i64],
+    cells: &mut [i64],
+) -> u64
+    ensures { λ r. ⌜ emptied r (now (nodes .exit)) (now (links .exit)) (now (values .exit)) (now (cells .exit)) ≡ emptying (now (nodes .entry)) (now (links .entry)) (now (values .entry)) (now (cells .entry)) ⌝ }
+{
+    empty(nodes, links, values, cells)
+}
+
+// The refusal number, which is the reply's first word too; its runs are the first rows of the log.
+#[no_mangle]
+pub extern "C" fn simmer_command(
+    nodes: &mut [u64],
+    links: &mut [u64],
+    values: &mut [i64],
+    cells: &mut [i64],
+    log: &mut [i64],
+    words: &[i64],
+    reply: &mut [i64],
+) -> u64
+    ensures { λ r. ⌜ called r (now (nodes .exit)) (now (links .exit)) (now (values .exit)) (now (cells .exit)) (now (log .exit)) (now (reply .exit)) ≡ callIn (now (nodes .entry)) (now (links .entry)) (now (values .entry)) (now (cells .entry)) (now (log .entry)) (now (words .entry)) (now (reply .entry)) ⌝ }
+{
+    if reply.len() < REPLY {
+        return NO_REPLY;
+    }
+    let a = command(nodes, links, values, cells, log, words);
+    let code = a.code;
+    put_reply(reply, code, a.value, a.runs);
+    code
+}
