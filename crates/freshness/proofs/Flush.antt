@@ -1,11 +1,12 @@
 -- T3: the flush. An effect that is live after it has a row in it exactly if, before it, it was dirty or a stored value that it read was not the fresh one; each row is that of the fresh values. Assumes nothing.
 use mathlib.Core.Path.{_≡_, refl, sym, ap, _∙_, subst}
 use mathlib.Core.Logic.{_⊎_, inl, inr}
-use mathlib.Core.Bool.{true, false}
+use mathlib.Core.Bool.{Bool, true, false, _||_}
 use mathlib.Core.List.{List, [], _∷_, _++_, append-assoc, append-nil}
 use Prim.Native.Nat.{ℕ, _+_, _≤_, _<_}
 use native.Mathlib.Omega.{arith}
 use lib.Dec.{eqb}
+use lib.ListN.{length, length-append}
 use borrow.Author.Tests.{eqb-true, eqb-false}
 use Rattle.primitive.specs.declared.flags.Named.{Named}
 use Rattle.primitive.specs.declared.values.Value.{Value}
@@ -15,7 +16,8 @@ use Rattle.meaning.specs.Engine.{run, flushOn}
 use Rattle.meaning.specs.WellFormed.{In, Once, EffectFlags, watching, pushed, pending, dirty}
 use Rattle.freshness.specs.Afresh.{recorded}
 use Rattle.freshness.specs.Evaluations.{inRun, inFlushOn}
-use Rattle.meaning.proofs.Laws.{clash, either}
+use Rattle.freshness.specs.Nodes.{owns}
+use Rattle.meaning.proofs.Laws.{clash, either, or-last, or-false}
 use Rattle.meaning.proofs.Members.{nil-none, reads-in, reads-sub}
 use Rattle.meaning.proofs.Still.{Given}
 use Rattle.meaning.proofs.Kept.{run-keeps, flushOn-keeps}
@@ -27,6 +29,7 @@ use Rattle.freshness.proofs.Inv.{Records, Linked, Inv}
 use Rattle.freshness.proofs.Clean.{φ, dep-moves, clean}
 use Rattle.freshness.proofs.Moves.{Changed, Moves}
 use Rattle.freshness.proofs.Whole.{limit}
+use Rattle.freshness.proofs.Gone.{owns-gone, Passes, passes-same}
 use Rattle.freshness.proofs.Effect.{Aside, rowOf, told}
 use Rattle.freshness.proofs.Run.{Stale, Due, Ran, quiet, ran, RunFresh, nothing-due, run-fresh}
 
@@ -41,6 +44,7 @@ pub record Flushed (g : Given) (p : ℕ → Value) (ρ : Records) (k : ℕ) (q :
   pub fresh : Rowed g p rows
   pub once : Once (whos rows)
   pub queued : (e : ℕ) → In e (whos rows) → In e q
+  pub passes : Passes g (s .gone) rows (t .gone)
   pub keeps : Inv g p (recorded ρ rows) nobody nobody t
   pub runs : (e : ℕ) → e < g .size → g .kind e ≡ effect → t .gone e ≡ false → (In e (whos rows) → Due g p s e) × (Due g p s e → In e (whos rows))
   pub later : s .cycle ≤ t .cycle
@@ -175,7 +179,7 @@ module _ (g : Given) (st : Static g) (p : ℕ → Value) where
 
     one : (j : ℕ) → Ran g p ρ e (withQueue s q) x → ((ρ′ : Records) → Inv g p ρ′ nobody nobody x → Flushed g p ρ′ j q x t) → Flushed g p ρ (k + j) (e ∷ q) s t
     unfolding whos recorded
-    one j (quiet lg vx nd) f =
+    one j (quiet lg vx nd same) f =
         let n = f ρ vx in
         let a₁ = rf .moves .later in
         let a₂ = rf .moves .spent in
@@ -187,6 +191,7 @@ module _ (g : Given) (st : Static g) (p : ℕ → Value) where
           fresh = n .fresh;
           once = n .once;
           queued = λ m z. inr (n .queued m z);
+          passes = passes-same g (n .rows) (x .gone) (s .gone) (t .gone) same (n .passes);
           keeps = n .keeps;
           runs = λ m h km a. either (eqb m e)
               (λ z. let y = eqb-true m e z in (
@@ -197,7 +202,7 @@ module _ (g : Given) (st : Static g) (p : ℕ → Value) where
           later = omega arith;
           spent = omega arith;
         }
-    one j (ran lg vx du) f =
+    one j (ran lg vx du live spares) f =
         let n = f (told g p ρ e) vx in
         let a₁ = rf .moves .later in
         let a₂ = rf .moves .spent in
@@ -209,6 +214,7 @@ module _ (g : Given) (st : Static g) (p : ℕ → Value) where
           fresh = (refl, n .fresh);
           once = (λ z. ones .0 (n .queued e z), n .once);
           queued = λ m z. in-queue n m z;
+          passes = (he, ke, live, passes-same g (n .rows) (x .gone) (λ m. s .gone m || owns (g .owner) e m) (t .gone) (taken spares) (n .passes));
           keeps = n .keeps;
           runs = λ m h km a. either (eqb m e)
               (λ z. let y = eqb-true m e z in (λ r. subst (λ (b : ℕ). Due g p s b) (sym y) (to-s du), λ d. inl y))
@@ -217,6 +223,14 @@ module _ (g : Given) (st : Static g) (p : ℕ → Value) where
           spent = omega arith;
         }
       where
+        taken : ((m : ℕ) → m < g .size → owns (g .owner) e m ≡ false → x .gone m ≡ s .gone m) → (m : ℕ) → m < g .size → x .gone m ≡ s .gone m || owns (g .owner) e m
+        taken sp m h = either (owns (g .owner) e m)
+            (λ o. let on = run-inside g st e he ke s q i is in owns-gone g st x (on .inside) e (on .disposed logs) m h o ∙ sym (or-last (s .gone m) (owns (g .owner) e m) o))
+            (λ o. sp m h o ∙ sym (ap (λ (b : Bool). s .gone m || b) o ∙ or-false (s .gone m)))
+          where
+            logs : x .log ≡ s .log → ⊥
+            logs z = let a = ap (λ (b : List Row). length b) (sym z ∙ lg) in let b = length-append (s .log) (rowOf g p e ∷ []) in omega arith
+
         in-queue : (n : Flushed g p (told g p ρ e) j q x t) (m : ℕ) → In m (e ∷ whos (n .rows)) → In m (e ∷ q)
         in-queue n m (inl z) = inl z
         in-queue n m (inr z) = inr (n .queued m z)
@@ -233,6 +247,7 @@ module _ (g : Given) (st : Static g) (p : ℕ → Value) where
     fresh = tt;
     once = tt;
     queued = λ e j. j;
+    passes = λ m h. refl;
     keeps = v;
     runs = λ e h k a. (λ j. absurd j, λ d. absurd (idle ρ s i v is e h k a d));
     later = omega arith;

@@ -1,7 +1,8 @@
 -- A write with the flush that follows it, and the end of a batch: the clauses are kept, each row is that of the fresh values,
 -- and where no effect was dirty, exactly the effects have a row that read something that now has another value. Assumes nothing.
 use mathlib.Core.Path.{_≡_, refl, sym, ap, _∙_, subst, fun-ext}
-use mathlib.Core.Bool.{false}
+use mathlib.Core.Logic.{_⊎_, inl, inr}
+use mathlib.Core.Bool.{Bool, true, false}
 use mathlib.Core.List.{List, [], _++_, append-nil}
 use Prim.Native.Nat.{ℕ, zero, suc, _+_, _≤_, _<_}
 use native.Mathlib.Omega.{arith}
@@ -29,6 +30,8 @@ use Rattle.freshness.proofs.Clean.{φ, quiet}
 use Rattle.freshness.proofs.Check.{branches}
 use Rattle.freshness.proofs.Whole.{limit}
 use Rattle.freshness.proofs.Write.{write-keeps, propagate-keeps, effect-dirty}
+use Rattle.freshness.proofs.Gone.{Passes}
+use Rattle.freshness.proofs.Run.{Due}
 use Rattle.freshness.proofs.Flush.{Rowed, Flushed, flush-fresh}
 use Rattle.freshness.proofs.Exact.{nothing-differs, due-differs, differs-due}
 
@@ -43,6 +46,7 @@ pub record Settled (g : Given) (p : ℕ → Value) (ρ : Records) (k : ℕ) (s t
   pub fresh : Rowed g p rows
   pub once : Once (whos rows)
   pub keeps : Inv g p (recorded ρ rows) nobody nobody t
+  pub passes : Passes g (s .gone) rows (t .gone)
   pub later : s .cycle ≤ t .cycle
   pub spent : t .cycle ≤ s .cycle + k
 
@@ -50,13 +54,43 @@ pub record Settled (g : Given) (p : ℕ → Value) (ρ : Records) (k : ℕ) (s t
 abbrev pub Exactly : Given → (ℕ → Value) → Records → List Row → St → Type 0
 Exactly g p ρ rows t = (e : ℕ) → e < g .size → g .kind e ≡ effect → t .gone e ≡ false → (In e (whos rows) → Differs (ρ e) (φ g p)) × (Differs (ρ e) (φ g p) → In e (whos rows))
 
+-- or f held of it
+abbrev pub Exactly-or : Given → (ℕ → Value) → Records → List Row → (ℕ → Bool) → St → Type 0
+Exactly-or g p ρ rows f t = (e : ℕ) → e < g .size → g .kind e ≡ effect → t .gone e ≡ false → (In e (whos rows) → (f e ≡ true) ⊎ Differs (ρ e) (φ g p)) × ((f e ≡ true) ⊎ Differs (ρ e) (φ g p) → In e (whos rows))
+
+module _ (g : Given) (p : ℕ → Value) (ρ : Records) (rows : List Row) (t : St) where
+  pub exactly-as : (f h : ℕ → Bool) → ((e : ℕ) → e < g .size → g .kind e ≡ effect → t .gone e ≡ false → f e ≡ h e) → Exactly-or g p ρ rows f t → Exactly-or g p ρ rows h t
+  exactly-as f h same x e l ke a =
+      subst (λ (b : Bool). (In e (whos rows) → (b ≡ true) ⊎ Differs (ρ e) (φ g p)) × ((b ≡ true) ⊎ Differs (ρ e) (φ g p) → In e (whos rows))) (same e l ke a) (x e l ke a)
+
+  -- where it held of none, the two say the same
+  module _ (f : ℕ → Bool) (nd : (e : ℕ) → e < g .size → g .kind e ≡ effect → t .gone e ≡ false → f e ≡ false) where
+    differs-alone : (e : ℕ) → e < g .size → g .kind e ≡ effect → t .gone e ≡ false → (f e ≡ true) ⊎ Differs (ρ e) (φ g p) → Differs (ρ e) (φ g p)
+    differs-alone e h ke a (inl d) = clash d (nd e h ke a)
+    differs-alone e h ke a (inr d) = d
+
+    pub exactly-clean : Exactly-or g p ρ rows f t → Exactly g p ρ rows t
+    exactly-clean x e h ke a = let r = x e h ke a in (λ j. differs-alone e h ke a (r .0 j), λ d. r .1 (inr d))
+
+    pub clean-exactly : Exactly g p ρ rows t → Exactly-or g p ρ rows f t
+    clean-exactly x e h ke a = let r = x e h ke a in (λ j. inr (r .0 j), λ d. r .1 (differs-alone e h ke a d))
+
+-- who is live after a flush was so before
+pub flush-alive : (q : List ℕ) (s : St) (e : ℕ) → flushOn s q .gone e ≡ false → s .gone e ≡ false
+flush-alive q s e a = either (s .gone e) (λ z. clash (flushOn-keeps q s .gone e z) a) (λ z. z)
+
 module _ (g : Given) (st : Static g) (p : ℕ → Value) (ρ : Records) where
   -- a flush
-  pub flush-exact : (q : List ℕ) (s : St) (k : ℕ) → Inside g nobody s → Inv g p ρ nobody nobody s → Undirtied g s → (f : Flushed g p ρ k q s (flushOn s q)) → Exactly g p ρ (f .rows) (flushOn s q)
-  flush-exact q s k i v nd f e h ke a =
-      let b : s .gone e ≡ false = either (s .gone e) (λ z. clash (flushOn-keeps q s .gone e z) a) (λ z. z) in
+  pub flush-exact : (q : List ℕ) (s : St) (k : ℕ) → Inside g nobody s → Inv g p ρ nobody nobody s → (f : Flushed g p ρ k q s (flushOn s q)) → Exactly-or g p ρ (f .rows) (λ e. s .fl e .dirty) (flushOn s q)
+  flush-exact q s k i v f e h ke a =
+      let b = flush-alive q s e a in
       let r = f .runs e h ke a in
-      (λ j. due-differs g st p ρ s i v e h ke b (nd e h ke b) (r .0 j), λ d. r .1 (differs-due g st p ρ s i v e h ke b (nd e h ke b) d))
+      either (s .fl e .dirty) (λ d. (λ j. inl d, λ z. r .1 (inl d)))
+      (λ d. (λ j. inr (due-differs g st p ρ s i v e h ke b d (r .0 j)), λ z. r .1 (go d z (differs-due g st p ρ s i v e h ke b d))))
+    where
+      go : s .fl e .dirty ≡ false → (s .fl e .dirty ≡ true) ⊎ Differs (ρ e) (φ g p) → (Differs (ρ e) (φ g p) → Due g p s e) → Due g p s e
+      go d (inl z) f = clash z d
+      go d (inr z) f = f z
 
   -- nothing queued: every live effect has read the fresh values, and none is dirty
   at-quiet : (s : St) → Inside g nobody s → s .queue ≡ [] → (e : ℕ) → e < g .size → g .kind e ≡ effect → s .gone e ≡ false → s .fl e ≡ f2
@@ -83,7 +117,10 @@ module _ (g : Given) (st : Static g) (p : ℕ → Value) (ρ : Records) where
 pub record Written (g : Given) (p : ℕ → Value) (ρ : Records) (k : ℕ) (s t : St) : Type 0 where
   pub settled : Settled g p ρ k s t
   pub exact : s .depth ≡ 0 → Exactly g p ρ (settled .rows) t
-  pub clean : Undirtied g s → (s .depth ≡ 0 → ⊥) → Undirtied g t
+  -- inside a batch it runs nothing, and changes neither what is stored nor what is dirty
+  pub silent : (s .depth ≡ 0 → ⊥) → settled .rows ≡ []
+  pub stored : (s .depth ≡ 0 → ⊥) → t .sto ≡ s .sto
+  pub dirty : (s .depth ≡ 0 → ⊥) → (e : ℕ) → g .kind e ≡ effect → t .fl e .dirty ≡ s .fl e .dirty
 
 module _ (g : Given) (st : Static g) (p : ℕ → Value) (ρ : Records) (s : St) (n : ℕ) (v : Value) (i : Inside g nobody s) (h : n < g .size) (kn : g .kind n ≡ signal) (w : Inv g p ρ nobody nobody s) (goes : s .stuck ≡ false) (calm : s .depth ≡ 0 → s .queue ≡ []) where
   abbrev p′ : ℕ → Value
@@ -93,25 +130,30 @@ module _ (g : Given) (st : Static g) (p : ℕ → Value) (ρ : Records) (s : St)
   t = setFl (setPend s n v) n f17
 
   -- nothing but marks
-  resting : (x : St) → Inv g p′ ρ nobody nobody x → x .log ≡ s .log → x .cycle ≡ s .cycle → Settled g p′ ρ 0 s x
+  resting : (x : St) → Inv g p′ ρ nobody nobody x → x .log ≡ s .log → x .cycle ≡ s .cycle → x .gone ≡ s .gone → Settled g p′ ρ 0 s x
   unfolding recorded whos
-  resting x y e c = record { rows = []; logged = e ∙ sym (append-nil (s .log)); fresh = tt; once = tt; keeps = y; later = omega arith; spent = omega arith }
+  resting x y e c d = record { rows = []; logged = e ∙ sym (append-nil (s .log)); fresh = tt; once = tt; keeps = y; passes = λ m h. ap (λ (f : ℕ → Bool). f m) d; later = omega arith; spent = omega arith }
 
   flushed : (d : ℕ) → s .depth ≡ d → s .cycle + inFlushAt (propagate t n) d < limit → Written g p′ ρ (inFlushAt (propagate t n) d) s (flushAt (propagate t n) d)
+  unfolding resting
   flushed zero e fits =
       let x = propagate t n in
       let xi = i-propagated g st s n v i h kn .inside in
       let xv = propagate-keeps g st p ρ s n v i h kn w goes in
       let f = flush-fresh g st p′ (x .queue) x ρ xi refl xv fits in
       record {
-        settled = record { rows = f .rows; logged = f .logged; fresh = f .fresh; once = f .once; keeps = f .keeps; later = f .later; spent = f .spent };
-        exact = λ z. flush-exact g st p′ ρ (x .queue) x _ xi xv (λ m a b c. effect-dirty g st p ρ s n v i h kn w goes m b ∙ undirtied g st p ρ s i (calm e) m a b c) f;
-        clean = λ u z. absurd (z e);
+        settled = record { rows = f .rows; logged = f .logged; fresh = f .fresh; once = f .once; keeps = f .keeps; passes = f .passes; later = f .later; spent = f .spent };
+        exact = λ z. exactly-clean g p′ ρ (f .rows) (flushOn x (x .queue)) (λ m. x .fl m .dirty) (λ m a b c. effect-dirty g st p ρ s n v i h kn w goes m b ∙ undirtied g st p ρ s i (calm e) m a b (flush-alive (x .queue) x m c)) (flush-exact g st p′ ρ (x .queue) x _ xi xv f);
+        silent = λ z. absurd (z e);
+        stored = λ z. absurd (z e);
+        dirty = λ z. absurd (z e);
       }
   flushed (suc d) e fits = record {
-    settled = resting (propagate t n) (propagate-keeps g st p ρ s n v i h kn w goes) refl refl;
+    settled = resting (propagate t n) (propagate-keeps g st p ρ s n v i h kn w goes) refl refl refl;
     exact = λ z. absurd (omega arith);
-    clean = λ u z m a b c. effect-dirty g st p ρ s n v i h kn w goes m b ∙ u m a b c;
+    silent = λ z. refl;
+    stored = λ z. refl;
+    dirty = λ z m b. effect-dirty g st p ρ s n v i h kn w goes m b;
   }
 
   pub store-fresh : s .cycle + inStore s n v < limit → Written g p′ ρ (inStore s n v) s (store s n v)
@@ -126,14 +168,16 @@ module _ (g : Given) (st : Static g) (p : ℕ → Value) (ρ : Records) (s : St)
       unchanged e =
           let same-p : p ≡ p′ = fun-ext (λ m. up-by p n v (λ (x : Value). p m ≡ x) m (λ q. ap p q ∙ sym (ap (λ (f : ℕ → Value). f n) (w .last)) ∙ e) (λ q. refl)) in
           let y : Inv g p′ ρ nobody nobody s = subst (λ (f : ℕ → Value). Inv g f ρ nobody nobody s) same-p w in
-          record { settled = resting s y refl refl; exact = λ z. quiet-exact g st p′ ρ s i y (calm z); clean = λ u z. u }
+          record { settled = resting s y refl refl refl; exact = λ z. quiet-exact g st p′ ρ s i y (calm z); silent = λ z. refl; stored = λ z. refl; dirty = λ z m b. refl }
 
       -- nobody reads it
       unheard : s .subs n ≡ [] → Written g p′ ρ 0 s t
       unheard e =
           let y = write-keeps g st p ρ s n v i h kn w e in
           record {
-            settled = resting t y refl refl;
+            settled = resting t y refl refl refl;
             exact = λ z. quiet-exact g st p′ ρ t (i-written g st s n v i h kn) y (calm z);
-            clean = λ u z m a b c. ap (λ (x : Named). x .dirty) (up-other (s .fl) n f17 m (λ q. clash (ap readable kn) (ap readable (sym (ap (g .kind) q) ∙ b)))) ∙ u m a b c;
+            silent = λ z. refl;
+            stored = λ z. refl;
+            dirty = λ z m b. ap (λ (x : Named). x .dirty) (up-other (s .fl) n f17 m (λ q. clash (ap readable kn) (ap readable (sym (ap (g .kind) q) ∙ b))));
           }

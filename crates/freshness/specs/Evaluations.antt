@@ -1,17 +1,19 @@
 -- How many evaluations an operation makes: of formulas of computeds and effects, first ones and later ones. It follows the operations of Reads and Engine branch by branch.
 use mathlib.Core.Bool.{true, false}
 use mathlib.Core.List.{List, [], _∷_}
-use mathlib.Core.Option.{Option}
+use mathlib.Core.Option.{Option, none, some}
 use Prim.Native.Nat.{ℕ, zero, suc, _+_}
+use lib.IntN.{ℤ}
 use Rattle.primitive.specs.declared.values.Value.{Value}
-use Rattle.primitive.specs.Values.{same, isZero}
+use Rattle.primitive.specs.Values.{value, sum, same, isZero}
 use Rattle.formula.specs.Trees.{Tree, constant, read, two, choose}
 use Rattle.meaning.specs.State.{St, Kind, signal, computed, effect, scope, f5, f6, f17, bare, raised, deps, nothing}
-use Rattle.meaning.specs.Setters.{setFl, setPend, withCycle, withQueue, withDepth}
+use Rattle.meaning.specs.Setters.{setFl, setPend, withCycle, withQueue, withDepth, withLog}
 use Rattle.meaning.specs.Links.{isNil, rewind}
 use Rattle.meaning.specs.Marks.{propagate}
 use Rattle.meaning.specs.Reads.{Ans, evalBy, readW, steady, checkW, fresh, check}
 use Rattle.meaning.specs.Engine.{run, node, owned}
+use Rattle.meaning.specs.Words.{Command, makeSignal, makeComputed, makeEffect, makeScope, setTo, addTo, readOf, disposeOf, batchStart, batchEnd, commandOf, nodeOf, ownerOf, formulaOf}
 
 -- rd reads a node, and c says how many evaluations that read makes
 unfoldable pub inFormula : (St → ℕ → St) → (St → ℕ → ℕ) → Tree → St → ℕ
@@ -106,3 +108,24 @@ abbrev pub inEnd : St → ℕ → ℕ
 inEnd s zero = 0
 inEnd s (suc zero) = inFlushOn (withDepth s 0) (s .queue)
 inEnd s (suc (suc d)) = 0
+
+-- ---- of a command
+unfoldable pub inPerform : St → Command → ℕ
+inPerform s (makeSignal v) = 0
+inPerform s (makeComputed cs) = 0
+inPerform s (makeEffect o cs) = inNewEffect s (ownerOf o) (formulaOf cs)
+inPerform s (makeScope o) = 0
+inPerform s (setTo n v) = inStore s (nodeOf n) (value v)
+inPerform s (addTo n d) = inStore s (nodeOf n) (sum (s .sto (nodeOf n)) (value d))
+inPerform s (readOf n) = inRead s (nodeOf n)
+inPerform s (disposeOf n) = 0
+inPerform s batchStart = 0
+inPerform s batchEnd = inEnd s (s .depth)
+
+unfoldable pub inPerformAny : St → Option Command → ℕ
+inPerformAny s none = 0
+inPerformAny s (some c) = inPerform s c
+
+unfoldable pub inAnswer : ℕ → St → List ℤ → ℕ
+inAnswer zero s ws = inPerformAny (withLog s []) (commandOf ws)
+inAnswer (suc r) s ws = 0
