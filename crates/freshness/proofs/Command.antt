@@ -1,64 +1,62 @@
 -- V7: every accepted command keeps the clauses, with the last written values and the records that the history tells. Assumes nothing.
-use mathlib.Core.Path.{_≡_, refl, sym, ap, ap₂, _∙_, subst, fun-ext}
-use mathlib.Core.Logic.{inl, inr}
-use mathlib.Core.Bool.{Bool, true, false, _&&_, _||_}
+use mathlib.Core.Path.{_≡_, refl, sym, ap, ap₂, _∙_, subst}
+use mathlib.Core.Bool.{Bool, true, false, _||_}
 use mathlib.Core.List.{List, [], _∷_, _++_}
 use mathlib.Core.Option.{Option, none, some}
-use Prim.Native.Nat.{ℕ, zero, suc, _+_, _≤_, _<_, pred}
+use Prim.Native.Nat.{ℕ, zero, suc, _+_, _<_, pred}
 use native.Mathlib.Omega.{arith}
 use lib.Dec.{eqb}
-use lib.IntN.{ℤ, pos}
+use lib.IntN.{pos}
 use borrow.Author.Tests.{not-true, eqb-true, eqb-false, eq-eqb, ne-eqb}
 use Rattle.primitive.specs.declared.flags.Named.{Named}
 use Rattle.primitive.specs.declared.values.Value.{Value}
 use Rattle.primitive.specs.Values.{value}
-use Rattle.formula.specs.Trees.{Tree, constant, names}
+use Rattle.formula.specs.Trees.{constant, names}
 use Rattle.meaning.specs.State.{St, Kind, signal, computed, effect, scope, Row, readable, f0, f1, f2, f6, nothing, up}
-use Rattle.meaning.specs.Setters.{setFl, withLog, withDepth}
+use Rattle.meaning.specs.Setters.{withLog, withDepth}
 use Rattle.meaning.specs.Links.{dispose}
-use Rattle.meaning.specs.Reads.{fresh, settle, evaluate}
+use Rattle.meaning.specs.Reads.{fresh, settle}
 use Rattle.meaning.specs.Engine.{logged, node, owned, flush, store, newSignal, newComputed, newScope, newEffect, endAt}
 use Rattle.meaning.specs.Words.{Command, makeSignal, makeComputed, makeEffect, makeScope, setTo, addTo, readOf, disposeOf, batchStart, batchEnd, nodeOf, ownerOf, formulaOf}
 use Rattle.meaning.specs.Refusals.{sightOf, asksOf, aSignal, anOwner, wrongNode, goneNode, badFormula, tooHigh, noRoom, wrongDepth, table}
 use Rattle.meaning.specs.Marks.{isEffect}
-use Rattle.meaning.specs.WellFormed.{In, Once, WellFormed}
+use Rattle.meaning.specs.WellFormed.{Once, WellFormed}
 use Rattle.meaning.specs.Commands.{perform}
 use Rattle.freshness.specs.Afresh.{recorded, moved, rested}
 use Rattle.freshness.specs.Evaluations.{inStore, inEnd, inPerform}
-use Rattle.freshness.specs.Nodes.{Nodes, withNew, owns, changed}
-use Rattle.freshness.specs.History.{Course, written, depthAfter, isWrite}
-use Rattle.freshness.specs.Right.{flushes, closes, returned, Agrees}
-use Rattle.meaning.proofs.Laws.{clash, false≢true, either, or-false, none-some, up-same, up-other, up-by}
+use Rattle.freshness.specs.Nodes.{Nodes, owns, changed}
+use Rattle.freshness.specs.History.{Course, written, depthAfter}
+use Rattle.freshness.specs.Right.{flushes, returned, Agrees}
+use Rattle.meaning.proofs.Laws.{clash, false≢true, either, or-false, none-some, up-same, up-other}
 use Rattle.meaning.proofs.Rings.{dispose-ring, settle-ring}
 use Rattle.meaning.proofs.Still.{Given, given, Fixed, Still, drops-still, renews-still}
 use Rattle.meaning.proofs.Kept.{store-keeps}
 use Rattle.meaning.proofs.Flush.{Lasting, whos}
 use Rattle.meaning.proofs.Refused.{NoneHolds}
-use Rattle.meaning.proofs.Inside.{nobody, also, Static, Inside, static, rest-inside}
+use Rattle.meaning.proofs.Inside.{nobody, Static, Inside}
 use Rattle.meaning.proofs.Dropping.{dispose-inside}
 use Rattle.meaning.proofs.Frames.{others}
 use Rattle.meaning.proofs.Reading.{settle-inside}
 use Rattle.meaning.proofs.Updating.{fresh-inside}
 use Rattle.meaning.proofs.Running.{nobody-open, flush-inside}
 use Rattle.meaning.proofs.Walking.{store-inside}
-use Rattle.meaning.proofs.Making.{Fits, new-static}
+use Rattle.meaning.proofs.Making.{new-static}
 use Rattle.meaning.proofs.Made.{made}
 use Rattle.meaning.proofs.Disposed.{dispose-gone}
-use Rattle.meaning.proofs.Accepted.{logless, taken, is-signal, signal-fits, computed-fits, effect-fits, scope-fits, store-calm, flush-depth}
-use Rattle.freshness.proofs.Forms.{firsts}
+use Rattle.meaning.proofs.Accepted.{taken, is-signal, signal-fits, computed-fits, effect-fits, scope-fits, store-calm, flush-depth}
 use Rattle.freshness.proofs.Inv.{Records, Inv, beside}
 use Rattle.freshness.proofs.Clean.{φ}
 use Rattle.freshness.proofs.Whole.{limit, read-fresh}
 use Rattle.freshness.proofs.Purge.{dispose-spends}
-use Rattle.freshness.proofs.Moves.{Moves}
-use Rattle.freshness.proofs.Effect.{Aside, rowOf}
+use Rattle.freshness.proofs.Effect.{rowOf}
 use Rattle.freshness.proofs.Flush.{Rowed, flush-fresh}
 use Rattle.freshness.proofs.Gone.{owns-higher, frame-gone, disposed-marks, Passes, passes-same, Shows}
-use Rattle.freshness.proofs.Store.{Undirtied, Exactly, Exactly-or, exactly-as, exactly-clean, clean-exactly, flush-alive, flush-exact, undirtied, store-fresh}
-use Rattle.freshness.proofs.Sound.{Sound, Step, not-it, code, and-first, and-last, owned-fixed, evaluated-fixed, up-agrees}
-use Rattle.freshness.proofs.Made.{owned-quiet, owned-keeps, plain-keeps, effect-fresh}
-use Rattle.freshness.proofs.Dirt.{moved-none, moved-same, effect-stays, dirty-told}
+use Rattle.freshness.proofs.Store.{Exactly, Exactly-or, exactly-as, exactly-clean, clean-exactly, flush-alive, flush-exact, undirtied, store-fresh}
+use Rattle.freshness.proofs.Sound.{Sound, Step, not-it, code, and-first, and-last, owned-fixed, evaluated-fixed}
+use Rattle.freshness.proofs.Made.{owned-quiet, plain-keeps, effect-fresh}
+use Rattle.freshness.proofs.Dirt.{effect-stays, dirty-told}
 use Rattle.freshness.proofs.Dispose.{dispose-keeps}
+use Rattle.freshness.proofs.Between.{w as w-of, st as st-of, i as i-of, v as v-of, v₀ as v₀-of, calm as calm-of, plainly, as-found, found-new, found-effect, shown as shown-of, shown-new, gone-new as gone-new-of, number-is as number-of, unsaid as unsaid-of}
 
 module _ (P : Course) (so : Sound P) (rows : ℕ) where
   abbrev s : St
@@ -70,145 +68,47 @@ module _ (P : Course) (so : Sound P) (rows : ℕ) where
   abbrev ρ : Records
   ρ = P .past .reads
 
-  -- the last written values after k
   abbrev then : Command → ℕ → Value
   then k = written (s .size) (s .sto) k p
 
   abbrev now : Command → Nodes
   now k = changed k (P .past .nodes)
 
+  abbrev g : Given
+  g = given s
+
   ag : Agrees (P .st) (P .past)
   ag = so .agrees
 
   w : WellFormed s
-  w = logless (P .st) rows (so .formed)
-
-  abbrev g : Given
-  g = given s
+  w = w-of P so rows
 
   st : Static g
-  st = static s w
+  st = st-of P so rows
 
   i : Inside g nobody s
-  i = rest-inside s w
+  i = i-of P so rows
 
   v : Inv g p ρ nobody nobody s
-  v = beside g p ρ nobody nobody (P .st) (so .inv) (P .st .queue) (P .st .depth) [] (P .st .stuck)
+  v = v-of P so rows
 
-  -- over the pending values
   v₀ : Inv g (s .pend) ρ nobody nobody s
-  v₀ = subst (λ (f : ℕ → Value). Inv g f ρ nobody nobody s) (sym (v .last)) v
+  v₀ = v₀-of P so rows
 
   calm : s .depth ≡ 0 → s .queue ≡ []
-  calm = so .formed .queued .at-depth-0
+  calm = calm-of P so rows
 
-  -- ---- a step that runs nothing
-  plainly : (k : Command) (p′ : ℕ → Value) (g′ : Given) (t : St) (x : Value) → Inv g′ p′ ρ nobody nobody t → given t ≡ g′ → t .log ≡ [] → t .cycle ≡ s .cycle → flushes (P .past) k ≡ false → x ≡ returned (P .past .nodes .size) (φ g′ p′) k → eqb (code k) 3 ≡ false
-      → (P .past .writes ≡ true → isWrite k ≡ true → (t .depth ≡ 0 → ⊥) → Undirtied g′ t) → ((m : ℕ) → g′ .size ≤ m → p′ m ≡ nothing)
-      → Shows g′ (now k) → ((m : ℕ) → m < g′ .size → t .gone m ≡ now k .gone m) → t .depth ≡ depthAfter k (P .past .depth)
-      → ((e : ℕ) → e < g′ .size → g′ .kind e ≡ effect → t .gone e ≡ false → t .fl e .dirty ≡ (P .past .found e || moved (s .sto) (t .sto) (ρ e))) → Step P k p′ g′ t x 0
-  unfolding recorded rested whos
-  plainly k p′ g′ t x y e l c nf vl nm u un sh gn d fo = record {
-    same = e;
-    keeps = subst (λ (z : List Row). Inv g′ p′ (recorded ρ z) nobody nobody t) (sym l) y;
-    fresh = subst (Rowed g′ p′) (sym l) tt;
-    once = subst (λ (z : List Row). Once (whos z)) (sym l) tt;
-    spent = omega arith;
-    runs = λ z. clash z nf;
-    exact = λ z. clash (and-first (flushes (P .past) k) (P .past .writes) z) nf;
-    clean = u;
-    found = λ z m h ke a. fo m h ke a ∙ sym (ap (λ (r : List Row). rested (λ n. P .past .found n || moved (s .sto) (t .sto) (ρ n)) r m) l);
-    value = vl;
-    unwritten = un;
-    shows = sh;
-    passes = subst (λ (z : List Row). Passes g′ (now k .gone) z (t .gone)) (sym l) gn;
-    depth = d;
-    made = λ o cs z. not-it k (makeEffect o cs) nm z;
-    silent = λ z f. l;
-  }
-
-  -- ---- what is stored and who is dirty stays, of the nodes that there were
-  in-record : (e : ℕ) → e < s .size → s .kind e ≡ effect → s .gone e ≡ false → (d : ℕ) → In d (firsts (ρ e)) → d < s .size
-  in-record e h ke a d j = let l = v .rec e h ke a (λ z. z) .all d j in subst (λ (n : ℕ). n < s .size) (l .to) (i .lists .inside (l .slot) (l .is-live) .0)
-
-  as-found : (t : St) → ((d : ℕ) → d < s .size → t .sto d ≡ s .sto d) → (e : ℕ) → e < s .size → s .kind e ≡ effect → s .gone e ≡ false → t .fl e .dirty ≡ s .fl e .dirty → t .fl e .dirty ≡ (P .past .found e || moved (s .sto) (t .sto) (ρ e))
-  as-found t same e h ke a d =
-      d ∙ so .found e h ke a ∙ sym (ap (λ (b : Bool). P .past .found e || b) (moved-none (s .sto) (t .sto) (ρ e) (λ m j. sym (same m (in-record e h ke a m j)))) ∙ or-false (P .past .found e))
-
-  less : (e : ℕ) → e < suc (s .size) → (e ≡ s .size → ⊥) → e < s .size
-  less e h f = omega arith
-
-  -- a new node is no effect
-  found-new : (k : Kind) (t : St) → (k ≡ effect → ⊥) → ((d : ℕ) → (d ≡ s .size → ⊥) → (t .sto d ≡ s .sto d) × (t .fl d ≡ s .fl d) × (t .gone d ≡ s .gone d))
-      → (e : ℕ) → e < suc (s .size) → up (s .kind) (s .size) k e ≡ effect → t .gone e ≡ false → t .fl e .dirty ≡ (P .past .found e || moved (s .sto) (t .sto) (ρ e))
-  found-new k t ne same e h ke a = either (eqb e (s .size))
-      (λ z. absurd (ne (sym (ap (up (s .kind) (s .size) k) (eqb-true e (s .size) z) ∙ up-same (s .kind) (s .size) k) ∙ ke)))
-      (λ z. let f = eqb-false e (s .size) z in let w = same e f in
-      as-found t (λ d lt. same d (λ q. omega arith) .0) e (less e h f) (sym (up-other (s .kind) (s .size) k e f) ∙ ke) (sym (w .2) ∙ a) (ap (λ (x : Named). x .dirty) (w .1)))
-
-  -- or it is one that has just run
-  module _ (o : Option ℕ) (c : Tree) (ok : Fits s effect c o) where
-    abbrev N : St
-    N = node s effect c o f6 nothing
-
-    abbrev n : ℕ
-    n = s .size
-
-    abbrev x : St
-    x = owned N n o
-
-    abbrev found-effect-type : St → Type 0
-    found-effect-type t = (e : ℕ) → e < suc n → up (s .kind) n effect e ≡ effect → t .gone e ≡ false → t .fl e .dirty ≡ up (λ m. P .past .found m || moved (s .sto) (t .sto) (ρ m)) n false e
-
-    found-effect : (t : St) (b k : ℕ) → t .fl n ≡ f2 → ((m : ℕ) → m < suc n → x .gone m ≡ true → t .gone m ≡ true) → Moves (given N) (N .pend) (Aside (given N) n t) nobody b k x t → found-effect-type t
-    found-effect t b k fn kp mv e h ke a = either (eqb e n)
-        (λ z. let q = eqb-true e n z in ap (λ (f : Named). f .dirty) (ap (t .fl) q ∙ fn) ∙ sym (ap (up (λ m. P .past .found m || moved (s .sto) (t .sto) (ρ m)) n false) q ∙ up-same (λ m. P .past .found m || moved (s .sto) (t .sto) (ρ m)) n false))
-        (λ z.
-        let ne = eqb-false e n z in
-        let lt = less e h ne in
-        let u = owned-quiet N n o in
-        let km : s .kind e ≡ effect = sym (up-other (s .kind) n effect e ne) ∙ ke in
-        let ax : x .gone e ≡ false = either (x .gone e) (λ y. clash (kp e h y) a) (λ y. y) in
-        let am : s .gone e ≡ false = sym (ap (λ (f : ℕ → Bool). f e) (u .gone) ∙ up-other (s .gone) n false e ne) ∙ ax in
-        let sto : (d : ℕ) → In d (firsts (ρ e)) → x .sto d ≡ s .sto d = λ d j. let l = in-record e lt km am d j in ap (λ (f : ℕ → Value). f d) (u .sto) ∙ up-other (s .sto) n nothing d (λ y. omega arith) in
-        dirty-told (given N) (new-static s w effect c o f6 nothing ok) (N .pend) ρ (also nobody n) x (made s w effect c f6 nothing refl o ok (λ q y. refl) .inside) (owned-keeps s w effect c f6 nothing refl ρ v₀ o ok (λ q y. refl)) deaf
-        (Aside (given N) n t) b k t mv e h ke ax (off ne) (out ne)
-        ∙ ap₂ (λ (y f : Bool). y || f) (ap (λ (f : ℕ → Named). f e .dirty) (u .fl) ∙ ap (λ (f : Named). f .dirty) (up-other (s .fl) n f6 e ne) ∙ so .found e lt km am) (moved-same (x .sto) (s .sto) (t .sto) (ρ e) sto)
-        ∙ sym (up-other (λ m. P .past .found m || moved (s .sto) (t .sto) (ρ m)) n false e ne))
-      where
-        deaf : (m : ℕ) → also nobody n m → readable (up (s .kind) n effect m) ≡ false
-        deaf m (inr q) = ap readable (ap (up (s .kind) n effect) q ∙ up-same (s .kind) n effect)
-
-        off : (e ≡ n → ⊥) → also nobody n e → ⊥
-        off ne (inr q) = ne q
-
-        out : (e ≡ n → ⊥) → Aside (given N) n t e → ⊥
-        out ne (inl y) = y (h, ke)
-        out ne (inr (inl y)) = ne y
-        out ne (inr (inr y)) = clash y a
-
-  -- ---- the nodes as they were
   shown : Shows g (P .past .nodes)
-  shown = record { size = ag .size; kind = ag .kind; form = ag .form; owner = ag .owner }
-
-  -- and with a new one
-  shown-new : (k : Kind) (c : Tree) (o : Option ℕ) (f : Named) (x : Value) → Shows (given (node s k c o f x)) (withNew (P .past .nodes) k c o)
-  shown-new k c o f x = record {
-    size = ap suc (ag .size);
-    kind = ap₂ (λ (h : ℕ → Kind) (n : ℕ). up h n k) (ag .kind) (ag .size);
-    form = ap₂ (λ (h : ℕ → Tree) (n : ℕ). up h n c) (ag .form) (ag .size);
-    owner = ap₂ (λ (h : ℕ → Option ℕ) (n : ℕ). up h n o) (ag .owner) (ag .size);
-  }
+  shown = shown-of P so rows
 
   gone-new : (m : ℕ) → m < suc (s .size) → up (s .gone) (s .size) false m ≡ up (P .past .nodes .gone) (P .past .nodes .size) false m
-  gone-new m h = up-agrees (s .gone) (P .past .nodes .gone) (s .size) false (ag .gone) m h ∙ ap (λ (n : ℕ). up (P .past .nodes .gone) n false m) (ag .size)
+  gone-new = gone-new-of P so rows
 
   number-is : value (pos (s .size)) ≡ value (pos (P .past .nodes .size))
-  number-is = ap (λ (n : ℕ). value (pos n)) (ag .size)
+  number-is = number-of P so rows
 
-  -- nothing was written to a node that is new
   unsaid : up (s .pend) (s .size) nothing ≡ p
-  unsaid = ap (λ (f : ℕ → Value). up f (s .size) nothing) (v .last) ∙ fun-ext (λ m. up-by p (s .size) nothing (λ (x : Value). x ≡ p m) m (λ q. sym (so .unwritten m (omega arith))) (λ q. refl))
+  unsaid = unsaid-of P so rows
 
   -- ---- a write
   writes : (k : Command) (n : ℕ) (x : Value) → then k ≡ up p n x → flushes (P .past) k ≡ eqb (P .past .depth) 0 → nothing ≡ returned (P .past .nodes .size) (φ g (then k)) k → eqb (code k) 3 ≡ false → Shows g (now k) → ((m : ℕ) → m < g .size → s .gone m ≡ now k .gone m) → s .depth ≡ depthAfter k (P .past .depth)
@@ -234,7 +134,7 @@ module _ (P : Course) (so : Sound P) (rows : ℕ) where
         clean = λ a b y m lt km am. r .dirty (λ e. y (de ∙ e)) m km ∙ so .clean a m lt km (alive m am);
         found = λ y m lt km am.
             let nz : s .depth ≡ 0 → ⊥ = λ e. y (de ∙ e) in
-            as-found t (λ d l. ap (λ (f : ℕ → Value). f d) (r .stored nz)) m lt km (alive m am) (r .dirty nz m km)
+            as-found P so rows t (λ d l. ap (λ (f : ℕ → Value). f d) (r .stored nz)) m lt km (alive m am) (r .dirty nz m km)
             ∙ sym (ap (λ (b : List Row). rested (λ n. P .past .found n || moved (s .sto) (t .sto) (ρ n)) b m) (z .logged ∙ r .silent nz));
         value = vl;
         unwritten = λ m y. ap (λ (f : ℕ → Value). f m) q ∙ up-other p n x m (λ e. omega arith) ∙ so .unwritten m y;
@@ -276,8 +176,8 @@ module _ (P : Course) (so : Sound P) (rows : ℕ) where
         silent = λ a y. clash (eq-eqb (P .past .depth) 1 (sym (ag .depth) ∙ e)) y;
       }
   ends (suc (suc d)) e ne fits =
-      plainly batchEnd p g (withDepth s (suc d)) nothing (beside g p ρ nobody nobody s v (s .queue) (suc d) [] (s .stuck)) refl refl refl
-      (ne-eqb (P .past .depth) 1 (λ q. let z = ag .depth in omega arith)) refl refl (λ a b y. so .clean a) (so .unwritten) shown (ag .gone) (ap pred (sym e ∙ ag .depth)) (λ m h ke a. as-found (withDepth s (suc d)) (λ z l. refl) m h ke a refl)
+      plainly P so rows batchEnd p g (withDepth s (suc d)) nothing (beside g p ρ nobody nobody s v (s .queue) (suc d) [] (s .stuck)) refl refl refl
+      (ne-eqb (P .past .depth) 1 (λ q. let z = ag .depth in omega arith)) refl refl (λ a b y. so .clean a) (so .unwritten) shown (ag .gone) (ap pred (sym e ∙ ag .depth)) (λ m h ke a. as-found P so rows (withDepth s (suc d)) (λ z l. refl) m h ke a refl)
 
   pub stepped : (k : Command) → NoneHolds (table true (sightOf (P .st) rows) (some k)) → s .cycle + inPerform s k < limit → (g′ : Given) × Step P k (then k) g′ (perform s k .st) (perform s k .val) (inPerform s k)
   unfolding table perform inPerform written changed wrongNode goneNode badFormula tooHigh noRoom wrongDepth asksOf names newSignal newComputed newScope newEffect recorded rested whos
@@ -285,12 +185,12 @@ module _ (P : Course) (so : Sound P) (rows : ℕ) where
       let c = constant (pos 0) in
       let N = node s signal c none f1 (value x) in (
         given N,
-        plainly (makeSignal x) (then (makeSignal x)) (given N) N _
+        plainly P so rows (makeSignal x) (then (makeSignal x)) (given N) N _
             (subst (λ (f : ℕ → Value). Inv (given N) f ρ nobody nobody N) (ap (λ (f : ℕ → Value). up f (s .size) (value x)) (v .last))
             (plain-keeps s w signal c f1 (value x) refl ρ v₀ none (signal-fits (P .st) rows (so .formed) x h) (λ q e. none-some e) (λ e. false≢true (sym (ap readable e))) (λ e. false≢true (sym (ap isComputed e)))))
             refl refl refl refl number-is refl (λ a b. false≢true b) (λ m y. up-other p (s .size) (value x) m (λ e. omega arith) ∙ so .unwritten m (omega arith))
-            (shown-new signal c none f1 (value x)) gone-new (ag .depth)
-            (found-new signal N (λ e. false≢true (sym (ap readable e))) (λ d f. (up-other (s .sto) (s .size) (value x) d f, up-other (s .fl) (s .size) f1 d f, up-other (s .gone) (s .size) false d f))),
+            (shown-new P so rows signal c none f1 (value x)) gone-new (ag .depth)
+            (found-new P so rows signal N (λ e. false≢true (sym (ap readable e))) (λ d f. (up-other (s .sto) (s .size) (value x) d f, up-other (s .fl) (s .size) f1 d f, up-other (s .gone) (s .size) false d f))),
       )
     where
       isComputed : Kind → Bool
@@ -302,11 +202,11 @@ module _ (P : Course) (so : Sound P) (rows : ℕ) where
       let c = formulaOf cs in
       let N = node s computed c none f0 nothing in (
         given N,
-        plainly (makeComputed cs) p (given N) N _
+        plainly P so rows (makeComputed cs) p (given N) N _
             (subst (λ (f : ℕ → Value). Inv (given N) f ρ nobody nobody N) unsaid
             (plain-keeps s w computed c f0 nothing refl ρ v₀ none (computed-fits (P .st) rows (so .formed) cs h) (λ q e. none-some e) (λ e. false≢true (sym (ap readable e))) (λ e. refl)))
-            refl refl refl refl number-is refl (λ a b. false≢true b) (λ m y. so .unwritten m (omega arith)) (shown-new computed c none f0 nothing) gone-new (ag .depth)
-            (found-new computed N (λ e. false≢true (sym (ap readable e))) (λ d f. (up-other (s .sto) (s .size) nothing d f, up-other (s .fl) (s .size) f0 d f, up-other (s .gone) (s .size) false d f))),
+            refl refl refl refl number-is refl (λ a b. false≢true b) (λ m y. so .unwritten m (omega arith)) (shown-new P so rows computed c none f0 nothing) gone-new (ag .depth)
+            (found-new P so rows computed N (λ e. false≢true (sym (ap readable e))) (λ d f. (up-other (s .sto) (s .size) nothing d f, up-other (s .fl) (s .size) f0 d f, up-other (s .gone) (s .size) false d f))),
       )
   stepped (makeEffect o cs) h fits =
       let c = formulaOf cs in
@@ -340,11 +240,11 @@ module _ (P : Course) (so : Sound P) (rows : ℕ) where
           exact = λ z. false≢true z;
           clean = λ a b. false≢true b;
           found = λ z e lt ke a.
-              found-effect (ownerOf o) c ok t n _ (up-same _ n f2) (λ k y b. r .spares k y (owned-none k y) ∙ b) (r .moves) e lt ke a
+              found-effect P so rows (ownerOf o) c ok t n _ (up-same _ n f2) (λ k y b. r .spares k y (owned-none k y) ∙ b) (r .moves) e lt ke a
               ∙ sym (ap (λ (b : List Row). rested (λ k. P .past .found k || moved (s .sto) (t .sto) (ρ k)) b e) lg);
           value = number-is;
           unwritten = λ k z. so .unwritten k (omega arith);
-          shows = shown-new effect c (ownerOf o) f6 nothing;
+          shows = shown-new P so rows effect c (ownerOf o) f6 nothing;
           passes = subst (λ (y : List Row). Passes (given N) A y (t .gone)) (sym lg) (omega arith, up-same (s .kind) n effect, sym (gone-new n (omega arith)) ∙ up-same (s .gone) n false, after);
           depth = ap (λ (f : Lasting). f .depth) ev ∙ ap (λ (f : Fixed). f .depth) fx ∙ ag .depth;
           made = λ a b z. (row, ag .size, lg);
@@ -359,11 +259,11 @@ module _ (P : Course) (so : Sound P) (rows : ℕ) where
       let m = made s w scope c f0 nothing refl (ownerOf o) ok (λ q e. refl) in
       let fx = owned-fixed N (s .size) (ownerOf o) in (
         given N,
-        plainly (makeScope o) p (given N) t _
+        plainly P so rows (makeScope o) p (given N) t _
             (subst (λ (f : ℕ → Value). Inv (given N) f ρ nobody nobody t) unsaid (plain-keeps s w scope c f0 nothing refl ρ v₀ (ownerOf o) ok (λ q e. refl) (λ e. false≢true (sym (ap isScope e))) (λ e. refl)))
             (m .inside .same) (ap (λ (f : Fixed). f .log) fx) (owned-quiet N (s .size) (ownerOf o) .cycle) refl number-is refl (λ a b. false≢true b) (λ k z. so .unwritten k (omega arith))
-            (shown-new scope c (ownerOf o) f0 nothing) (λ k lt. ap (λ (f : ℕ → Bool). f k) (owned-quiet N (s .size) (ownerOf o) .gone) ∙ gone-new k lt) (ap (λ (f : Fixed). f .depth) fx ∙ ag .depth)
-            (found-new scope t (λ e. false≢true (sym (ap isScope e))) (λ d f. let u = owned-quiet N (s .size) (ownerOf o) in (
+            (shown-new P so rows scope c (ownerOf o) f0 nothing) (λ k lt. ap (λ (f : ℕ → Bool). f k) (owned-quiet N (s .size) (ownerOf o) .gone) ∙ gone-new k lt) (ap (λ (f : Fixed). f .depth) fx ∙ ag .depth)
+            (found-new P so rows scope t (λ e. false≢true (sym (ap isScope e))) (λ d f. let u = owned-quiet N (s .size) (ownerOf o) in (
               ap (λ (a : ℕ → Value). a d) (u .sto) ∙ up-other (s .sto) (s .size) nothing d f,
               ap (λ (a : ℕ → Named). a d) (u .fl) ∙ up-other (s .fl) (s .size) f0 d f,
               ap (λ (a : ℕ → Bool). a d) (u .gone) ∙ up-other (s .gone) (s .size) false d f,
@@ -418,11 +318,11 @@ module _ (P : Course) (so : Sound P) (rows : ℕ) where
       let gone : (m : ℕ) → m < g .size → t .gone m ≡ (P .past .nodes .gone m || (eqb m x || owns (P .past .nodes .owner) x m)) =
       λ m lt. disposed-marks g st s t x (d .inside) (dispose-gone s x) (q .gone) (d .others) m lt ∙ ap₂ (λ (b : Bool) (f : ℕ → Option ℕ). b || (eqb m x || owns f x m)) (ag .gone m lt) (ag .owner) in (
         g,
-        plainly (disposeOf n) p g t nothing (dispose-keeps g st p ρ s x i (k .0) rn v) (d .inside .same) (ap (λ (f : Fixed). f .log) (q .same)) (dispose-spends s x .cycle) refl refl refl (λ a b. false≢true b) (so .unwritten)
+        plainly P so rows (disposeOf n) p g t nothing (dispose-keeps g st p ρ s x i (k .0) rn v) (d .inside .same) (ap (λ (f : Fixed). f .log) (q .same)) (dispose-spends s x .cycle) refl refl refl (λ a b. false≢true b) (so .unwritten)
             (record { size = ag .size; kind = ag .kind; form = ag .form; owner = ag .owner }) gone (ap (λ (f : Fixed). f .depth) (q .same) ∙ ag .depth)
             (λ m lt km am. let sp = dispose-spends s x in let al = either (s .gone m) (λ b. clash (sp .gone m b) am) (λ b. b) in
-            as-found t (λ e l. ap (λ (f : ℕ → Value). f e) (sp .sto)) m lt km al (ap (λ (z : Named). z .dirty) (effect-stays g (s .fl m) t (d .inside) m lt km am (sp .flags m)))),
+            as-found P so rows t (λ e l. ap (λ (f : ℕ → Value). f e) (sp .sto)) m lt km al (ap (λ (z : Named). z .dirty) (effect-stays g (s .fl m) t (d .inside) m lt km am (sp .flags m)))),
       )
   stepped batchStart h fits =
-      (g, plainly batchStart p g (withDepth s (suc (s .depth))) nothing (beside g p ρ nobody nobody s v (s .queue) (suc (s .depth)) [] (s .stuck)) refl refl refl refl refl refl (λ a b y. so .clean a) (so .unwritten) shown (ag .gone) (ap suc (ag .depth)) (λ m h ke a. as-found (withDepth s (suc (s .depth))) (λ z l. refl) m h ke a refl))
+      (g, plainly P so rows batchStart p g (withDepth s (suc (s .depth))) nothing (beside g p ρ nobody nobody s v (s .queue) (suc (s .depth)) [] (s .stuck)) refl refl refl refl refl refl (λ a b y. so .clean a) (so .unwritten) shown (ag .gone) (ap suc (ag .depth)) (λ m h ke a. as-found P so rows (withDepth s (suc (s .depth))) (λ z l. refl) m h ke a refl))
   stepped batchEnd h fits = (g, ends (s .depth) refl (eqb-false (s .depth) 0 (h 7)) fits)

@@ -19,7 +19,7 @@ use Rattle.meaning.proofs.Dropping.{Fallen}
 use Rattle.freshness.proofs.Forms.{firsts}
 use Rattle.freshness.proofs.Inv.{Records, Linked, Inv}
 use Rattle.freshness.proofs.Clean.{φ, dep-moves, clean}
-use Rattle.freshness.proofs.Moves.{Changed, Moves}
+use Rattle.freshness.proofs.Moves.{Moves}
 
 -- ---- what was read and has another value
 moved-at : (a b : ℕ → Value) (xs : List (ℕ × Value)) → moved a b xs ≡ true → (d : ℕ) × In d (firsts xs) × (a d ≡ b d → ⊥)

@@ -24,6 +24,8 @@ pub mod Made
 pub mod Dispose
 pub mod Dirt
 pub mod Sound
+pub mod Between
 pub mod Command
 pub mod History
 pub mod Used
+pub mod Wrong

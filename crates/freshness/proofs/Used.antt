@@ -22,7 +22,7 @@ use Rattle.freshness.specs.History.{Call, meant, written as lastWritten,
 use Rattle.freshness.specs.Right.{Right, Held, Demand3}
 use Rattle.freshness.proofs.History.{demand3}
 
-abbrev room : Room
+abbrev pub room : Room
 room = record { nodes = 16; slots = 32; cells = 32 }
 
 abbrev call : List ℤ → Call
