@@ -30,7 +30,6 @@ use Rattle.freshness.specs.Right.{flushes, returned, Agrees}
 use Rattle.meaning.proofs.Laws.{clash, false≢true, either, or-false, none-some, up-same, up-other}
 use Rattle.meaning.proofs.Rings.{dispose-ring, settle-ring}
 use Rattle.meaning.proofs.Still.{Given, given, Fixed, Still, drops-still, renews-still}
-use Rattle.meaning.proofs.Kept.{store-keeps}
 use Rattle.meaning.proofs.Flush.{Lasting, whos}
 use Rattle.meaning.proofs.Refused.{NoneHolds}
 use Rattle.meaning.proofs.Inside.{nobody, Static, Inside}
@@ -50,8 +49,8 @@ use Rattle.freshness.proofs.Whole.{limit, read-fresh}
 use Rattle.freshness.proofs.Purge.{dispose-spends}
 use Rattle.freshness.proofs.Effect.{rowOf}
 use Rattle.freshness.proofs.Flush.{Rowed, flush-fresh}
-use Rattle.freshness.proofs.Gone.{owns-higher, frame-gone, disposed-marks, Passes, passes-same, Shows}
-use Rattle.freshness.proofs.Store.{Exactly, Exactly-or, exactly-as, exactly-clean, clean-exactly, flush-alive, flush-exact, undirtied, store-fresh}
+use Rattle.freshness.proofs.Gone.{owns-higher, frame-gone, disposed-marks, Passes, passes-same, passes-alive, Shows}
+use Rattle.freshness.proofs.Store.{Exactly, Exactly-or, exactly-as, exactly-clean, clean-exactly, flush-exact, undirtied, store-fresh}
 use Rattle.freshness.proofs.Sound.{Sound, Step, not-it, code, and-first, and-last, owned-fixed, evaluated-fixed}
 use Rattle.freshness.proofs.Made.{owned-quiet, plain-keeps, effect-fresh}
 use Rattle.freshness.proofs.Dirt.{effect-stays, dirty-told}
@@ -119,7 +118,7 @@ module _ (P : Course) (so : Sound P) (rows : ℕ) where
       let r = store-fresh g st p ρ s n x i h kn v (so .goes) calm fits in
       let z = r .settled in
       let de = store-calm s n x calm .0 in
-      let alive : (m : ℕ) → t .gone m ≡ false → s .gone m ≡ false = λ m a. either (s .gone m) (λ b. clash (store-keeps s n x .gone m b) a) (λ b. b) in
+      let ps : Passes g (s .gone) (t .log) (t .gone) = subst (λ (y : List Row). Passes g (s .gone) y (t .gone)) (sym (z .logged)) (z .passes) in
       let at-0 : flushes (P .past) k ≡ true → s .depth ≡ 0 = λ y. ag .depth ∙ eqb-true (P .past .depth) 0 (sym fl ∙ y) in
       let exact : s .depth ≡ 0 → Exactly g (then k) ρ (t .log) t =
       λ y. subst (λ (f : ℕ → Value). Exactly g f ρ (t .log) t) (sym q) (subst (λ (b : List Row). Exactly g (up p n x) ρ b t) (sym (z .logged)) (r .exact y)) in
@@ -129,17 +128,17 @@ module _ (P : Course) (so : Sound P) (rows : ℕ) where
         fresh = subst (λ (f : ℕ → Value). Rowed g f (t .log)) (sym q) (subst (Rowed g (up p n x)) (sym (z .logged)) (z .fresh));
         once = subst (λ (y : List Row). Once (whos y)) (sym (z .logged)) (z .once);
         spent = z .spent;
-        runs = λ y. clean-exactly g (then k) ρ (t .log) t (P .past .found) (λ m a b c. sym (so .found m a b (alive m c)) ∙ undirtied g st p ρ s i (calm (at-0 y)) m a b (alive m c)) (exact (at-0 y));
+        runs = λ y. clean-exactly g (then k) ρ (t .log) s t ps (P .past .found) (λ m a b c. sym (so .found m a b c) ∙ undirtied g st p ρ s i (calm (at-0 y)) m a b c) (exact (at-0 y));
         exact = λ y. exact (at-0 (and-first (flushes (P .past) k) (P .past .writes) y));
-        clean = λ a b y m lt km am. r .dirty (λ e. y (de ∙ e)) m km ∙ so .clean a m lt km (alive m am);
+        clean = λ a b y m lt km am. r .dirty (λ e. y (de ∙ e)) m km ∙ so .clean a m lt km (passes-alive g (t .log) (s .gone) (t .gone) ps m lt am);
         found = λ y m lt km am.
             let nz : s .depth ≡ 0 → ⊥ = λ e. y (de ∙ e) in
-            as-found P so rows t (λ d l. ap (λ (f : ℕ → Value). f d) (r .stored nz)) m lt km (alive m am) (r .dirty nz m km)
+            as-found P so rows t (λ d l. ap (λ (f : ℕ → Value). f d) (r .stored nz)) m lt km (passes-alive g (t .log) (s .gone) (t .gone) ps m lt am) (r .dirty nz m km)
             ∙ sym (ap (λ (b : List Row). rested (λ n. P .past .found n || moved (s .sto) (t .sto) (ρ n)) b m) (z .logged ∙ r .silent nz));
         value = vl;
         unwritten = λ m y. ap (λ (f : ℕ → Value). f m) q ∙ up-other p n x m (λ e. omega arith) ∙ so .unwritten m y;
         shows = sh;
-        passes = passes-same g (t .log) (s .gone) (now k .gone) (t .gone) gn (subst (λ (y : List Row). Passes g (s .gone) y (t .gone)) (sym (z .logged)) (z .passes));
+        passes = passes-same g (t .log) (s .gone) (now k .gone) (t .gone) gn ps;
         depth = de ∙ dp;
         made = λ o cs y. not-it k (makeEffect o cs) nm y;
         silent = λ a f. z .logged ∙ r .silent (λ e. clash (fl ∙ eq-eqb (P .past .depth) 0 (sym (ag .depth) ∙ e)) f);
@@ -162,9 +161,9 @@ module _ (P : Course) (so : Sound P) (rows : ℕ) where
         fresh = subst (Rowed g p) (sym (f .logged)) (f .fresh);
         once = subst (λ (y : List Row). Once (whos y)) (sym (f .logged)) (f .once);
         spent = f .spent;
-        runs = λ y. subst (λ (b : List Row). Exactly-or g p ρ b (P .past .found) t) (sym (f .logged)) (exactly-as g p ρ (f .rows) t (λ m. x .fl m .dirty) (P .past .found) (λ m a b c. so .found m a b (flush-alive (s .queue) x m c)) runs);
+        runs = λ y. subst (λ (b : List Row). Exactly-or g p ρ b (P .past .found) t) (sym (f .logged)) (exactly-as g p ρ (f .rows) x t (f .passes) (λ m. x .fl m .dirty) (P .past .found) (so .found) runs);
         exact = λ y. subst (λ (b : List Row). Exactly g p ρ b t) (sym (f .logged))
-            (exactly-clean g p ρ (f .rows) t (λ m. x .fl m .dirty) (λ m a b c. so .clean (and-last (eqb (P .past .depth) 1) (P .past .writes) y) m a b (flush-alive (s .queue) x m c)) runs);
+            (exactly-clean g p ρ (f .rows) x t (f .passes) (λ m. x .fl m .dirty) (so .clean (and-last (eqb (P .past .depth) 1) (P .past .writes) y)) runs);
         clean = λ a b y. absurd (y (flush-depth (s .queue) x));
         found = λ y. absurd (y (flush-depth (s .queue) x));
         value = refl;

@@ -1,6 +1,6 @@
 -- Which nodes are gone: a run takes all that its effect owns and nothing else, a disposal the node too; what the rows tell is what the state says. Assumes nothing.
 use mathlib.Core.Path.{_≡_, refl, sym, ap, ap₂, _∙_, subst}
-use mathlib.Core.Logic.{inl}
+use mathlib.Core.Logic.{inl, inr}
 use mathlib.Core.Bool.{Bool, true, false, _||_}
 use mathlib.Core.List.{List, [], _∷_, _++_}
 use mathlib.Core.Option.{Option, none, some}
@@ -16,6 +16,7 @@ use Rattle.freshness.specs.Right.{LiveRows}
 use Rattle.meaning.proofs.Laws.{clash, false≢true, either, or-first, or-last, or-one, or-false, or-left, or-right}
 use Rattle.meaning.proofs.Members.{nil-none}
 use Rattle.meaning.proofs.Still.{Given}
+use Rattle.meaning.proofs.Flush.{whos}
 use Rattle.meaning.proofs.Inside.{Set, nobody, Static, Inside, Under}
 use Rattle.meaning.proofs.Frames.{Frame}
 
@@ -111,6 +112,18 @@ passes-same g (r ∷ rs) a c b e p = (
   sym (e (r .who) (p .0)) ∙ p .2,
   passes-same g rs (λ m. a m || owns (g .owner) (r .who) m) (λ m. c m || owns (g .owner) (r .who) m) b (λ m h. ap (λ (z : Bool). z || owns (g .owner) (r .who) m) (e m h)) (p .3),
 )
+
+-- who has a row was live before it, and so was who is live after it
+pub row-alive : (g : Given) (rs : List Row) (a b : ℕ → Bool) → Passes g a rs b → (e : ℕ) → In e (whos rs) → (e < g .size) × (g .kind e ≡ effect) × (a e ≡ false)
+unfolding whos
+row-alive g (r ∷ rs) a b p e (inl q) = subst (λ (n : ℕ). (n < g .size) × (g .kind n ≡ effect) × (a n ≡ false)) (sym q) (p .0, p .1, p .2)
+row-alive g (r ∷ rs) a b p e (inr i) =
+    let x = row-alive g rs (λ m. a m || owns (g .owner) (r .who) m) b (p .3) e i in
+    (x .0, x .1, or-left (a e) (owns (g .owner) (r .who) e) (x .2))
+
+pub passes-alive : (g : Given) (rs : List Row) (a b : ℕ → Bool) → Passes g a rs b → (e : ℕ) → e < g .size → b e ≡ false → a e ≡ false
+passes-alive g [] a b p e h z = sym (p e h) ∙ z
+passes-alive g (r ∷ rs) a b p e h z = or-left (a e) (owns (g .owner) (r .who) e) (passes-alive g rs (λ m. a m || owns (g .owner) (r .who) m) b (p .3) e h z)
 
 -- ---- what was told of the nodes
 pub record Shows (g : Given) (G : Nodes) : Type 0 where

@@ -19,7 +19,7 @@ use Rattle.freshness.specs.Afresh.{afreshOf, recorded, moved, rested, Am
 use Rattle.freshness.specs.Nodes.{changed, ran}
 use Rattle.freshness.specs.Evaluations.{inPerformAny, inAnswer, inPerform}
 use Rattle.freshness.specs.History.{Call, meant, inCall, Past, written, depthAfter, isWrite, writesOn, foundOn, next, Course, now, after, begin}
-use Rattle.freshness.specs.Right.{HasRow, NoTwo, LiveEffect, LiveRows, FreshRows, valuesNow, returned, RightRuns, Right, Recorded, Agrees, Held, Demand3}
+use Rattle.freshness.specs.Right.{HasRow, NoTwo, LiveEffect, LiveRows, FreshRows, valuesNow, returned, Run, RightRuns, Right, Recorded, Agrees, Held, Demand3}
 use Rattle.meaning.proofs.Laws.{false≢true, same-some}
 use Rattle.meaning.proofs.Still.{Given, given}
 use Rattle.meaning.proofs.Flush.{whos}
@@ -33,7 +33,7 @@ use Rattle.freshness.proofs.Inv.{ReadsBy}
 use Rattle.freshness.proofs.Clean.{φ}
 use Rattle.freshness.proofs.Flush.{Rowed}
 use Rattle.freshness.proofs.Gone.{Shows, ran-shows, passes-told}
-use Rattle.freshness.proofs.Store.{Undirtied, undirtied}
+use Rattle.freshness.proofs.Store.{Undirtied, Runs, undirtied}
 use Rattle.freshness.proofs.Sound.{and-first, and-last, Sound, Step}
 use Rattle.freshness.proofs.Command.{stepped}
 
@@ -180,15 +180,14 @@ module _ (p₀ : Course) (so : Sound (as-ours p₀)) (c : Call) where
         live = told-of .0;
         made = r .made;
         none-else = r .silent;
-        exactly = λ cl m lm.
-            let l = alive m lm in
-            let x = subst (λ (g : ℕ → Value). (In m (whos rs) → Differs (p .reads m) g) × (Differs (p .reads m) g → In m (whos rs))) values (r .exact cl m (l .0) (l .1) (l .2)) in
-            (λ b. x .0 (has-in m rs b), λ b. in-has m rs (x .1 b));
-        runs = λ fl m lm.
-            let l = alive m lm in
-            let x = subst (λ (g : ℕ → Value). (In m (whos rs) → (p .found m ≡ true) ⊎ Differs (p .reads m) g) × ((p .found m ≡ true) ⊎ Differs (p .reads m) g → In m (whos rs))) values (r .runs fl m (l .0) (l .1) (l .2)) in
-            (λ b. x .0 (has-in m rs b), λ b. in-has m rs (x .1 b));
+        exactly = λ cl. run-as (λ (g : ℕ → Value) (e : ℕ). Differs (p .reads e) g) (r .exact cl);
+        runs = λ fl. run-as (λ (g : ℕ → Value) (e : ℕ). (p .found e ≡ true) ⊎ Differs (p .reads e) g) (r .runs fl);
       }
+        where
+          run-as : (C : (ℕ → Value) → ℕ → Type 0) → Runs (C (φ (given t) last)) (given t) rs t → Run (C (valuesNow q)) (q .nodes) rs
+          run-as C x =
+              let y = subst (λ (g : ℕ → Value). Runs (C g) (given t) rs t) values x in
+              (λ e b. y .0 e (has-in e rs b), λ e lm d. let l = alive e lm in in-has e rs (y .1 e (l .0) (l .1) (l .2) d))
 
       pub fine-after : Fine a q
       fine-after = (

@@ -21,7 +21,6 @@ use Rattle.freshness.specs.Evaluations.{inFlushAt, inStore}
 use Rattle.meaning.proofs.Laws.{clash, either, up-other, up-by}
 use Rattle.meaning.proofs.Members.{nil-none, isNil-true}
 use Rattle.meaning.proofs.Still.{Given}
-use Rattle.meaning.proofs.Kept.{flushOn-keeps}
 use Rattle.meaning.proofs.Flush.{whos}
 use Rattle.meaning.proofs.Inside.{nobody, Static, Inside}
 use Rattle.meaning.proofs.Walking.{i-written, i-propagated}
@@ -30,7 +29,7 @@ use Rattle.freshness.proofs.Clean.{φ, quiet}
 use Rattle.freshness.proofs.Check.{branches}
 use Rattle.freshness.proofs.Whole.{limit}
 use Rattle.freshness.proofs.Write.{write-keeps, propagate-keeps, effect-dirty}
-use Rattle.freshness.proofs.Gone.{Passes}
+use Rattle.freshness.proofs.Gone.{Passes, row-alive, passes-alive}
 use Rattle.freshness.proofs.Run.{Due}
 use Rattle.freshness.proofs.Flush.{Rowed, Flushed, flush-fresh}
 use Rattle.freshness.proofs.Exact.{nothing-differs, due-differs, differs-due}
@@ -50,47 +49,55 @@ pub record Settled (g : Given) (p : ℕ → Value) (ρ : Records) (k : ℕ) (s t
   pub later : s .cycle ≤ t .cycle
   pub spent : t .cycle ≤ s .cycle + k
 
--- an effect that is live after it has a row exactly if something that its last run read has another value
+-- the rows are of effects with cause, and of each that has cause and is live after it
+abbrev pub Runs : (ℕ → Type 0) → Given → List Row → St → Type 0
+Runs Cause g rows t = ((e : ℕ) → In e (whos rows) → Cause e) × ((e : ℕ) → e < g .size → g .kind e ≡ effect → t .gone e ≡ false → Cause e → In e (whos rows))
+
+-- something that its last run read has another value
 abbrev pub Exactly : Given → (ℕ → Value) → Records → List Row → St → Type 0
-Exactly g p ρ rows t = (e : ℕ) → e < g .size → g .kind e ≡ effect → t .gone e ≡ false → (In e (whos rows) → Differs (ρ e) (φ g p)) × (Differs (ρ e) (φ g p) → In e (whos rows))
+Exactly g p ρ rows t = Runs (λ e. Differs (ρ e) (φ g p)) g rows t
 
--- or f held of it
+-- or f holds of it
 abbrev pub Exactly-or : Given → (ℕ → Value) → Records → List Row → (ℕ → Bool) → St → Type 0
-Exactly-or g p ρ rows f t = (e : ℕ) → e < g .size → g .kind e ≡ effect → t .gone e ≡ false → (In e (whos rows) → (f e ≡ true) ⊎ Differs (ρ e) (φ g p)) × ((f e ≡ true) ⊎ Differs (ρ e) (φ g p) → In e (whos rows))
+Exactly-or g p ρ rows f t = Runs (λ e. (f e ≡ true) ⊎ Differs (ρ e) (φ g p)) g rows t
 
-module _ (g : Given) (p : ℕ → Value) (ρ : Records) (rows : List Row) (t : St) where
-  pub exactly-as : (f h : ℕ → Bool) → ((e : ℕ) → e < g .size → g .kind e ≡ effect → t .gone e ≡ false → f e ≡ h e) → Exactly-or g p ρ rows f t → Exactly-or g p ρ rows h t
-  exactly-as f h same x e l ke a =
-      subst (λ (b : Bool). (In e (whos rows) → (b ≡ true) ⊎ Differs (ρ e) (φ g p)) × ((b ≡ true) ⊎ Differs (ρ e) (φ g p) → In e (whos rows))) (same e l ke a) (x e l ke a)
+module _ (g : Given) (p : ℕ → Value) (ρ : Records) (rows : List Row) (s t : St) (ps : Passes g (s .gone) rows (t .gone)) where
+  -- another cause, as far as effects are concerned that are live before it
+  runs-by : (A B : ℕ → Type 0) → ((e : ℕ) → e < g .size → g .kind e ≡ effect → s .gone e ≡ false → (A e → B e) × (B e → A e)) → Runs A g rows t → Runs B g rows t
+  runs-by A B f x = (
+    λ e j. let a = row-alive g rows (s .gone) (t .gone) ps e j in f e (a .0) (a .1) (a .2) .0 (x .0 e j),
+    λ e h ke a d. x .1 e h ke a (f e h ke (passes-alive g rows (s .gone) (t .gone) ps e h a) .1 d),
+  )
 
-  -- where it held of none, the two say the same
-  module _ (f : ℕ → Bool) (nd : (e : ℕ) → e < g .size → g .kind e ≡ effect → t .gone e ≡ false → f e ≡ false) where
-    differs-alone : (e : ℕ) → e < g .size → g .kind e ≡ effect → t .gone e ≡ false → (f e ≡ true) ⊎ Differs (ρ e) (φ g p) → Differs (ρ e) (φ g p)
-    differs-alone e h ke a (inl d) = clash d (nd e h ke a)
-    differs-alone e h ke a (inr d) = d
+  pub exactly-as : (f h : ℕ → Bool) → ((e : ℕ) → e < g .size → g .kind e ≡ effect → s .gone e ≡ false → f e ≡ h e) → Exactly-or g p ρ rows f t → Exactly-or g p ρ rows h t
+  exactly-as f h same = runs-by (λ e. (f e ≡ true) ⊎ Differs (ρ e) (φ g p)) (λ e. (h e ≡ true) ⊎ Differs (ρ e) (φ g p))
+      (λ e l ke a. let q = same e l ke a in (
+        subst (λ (b : Bool). (f e ≡ true) ⊎ Differs (ρ e) (φ g p) → (b ≡ true) ⊎ Differs (ρ e) (φ g p)) q (λ z. z),
+        subst (λ (b : Bool). (b ≡ true) ⊎ Differs (ρ e) (φ g p) → (f e ≡ true) ⊎ Differs (ρ e) (φ g p)) q (λ z. z),
+      ))
+
+  -- where f holds of none, the two say the same
+  module _ (f : ℕ → Bool) (nd : (e : ℕ) → e < g .size → g .kind e ≡ effect → s .gone e ≡ false → f e ≡ false) where
+    differs-alone : (e : ℕ) → f e ≡ false → (f e ≡ true) ⊎ Differs (ρ e) (φ g p) → Differs (ρ e) (φ g p)
+    differs-alone e z (inl d) = clash d z
+    differs-alone e z (inr d) = d
 
     pub exactly-clean : Exactly-or g p ρ rows f t → Exactly g p ρ rows t
-    exactly-clean x e h ke a = let r = x e h ke a in (λ j. differs-alone e h ke a (r .0 j), λ d. r .1 (inr d))
+    exactly-clean = runs-by (λ e. (f e ≡ true) ⊎ Differs (ρ e) (φ g p)) (λ e. Differs (ρ e) (φ g p)) (λ e h ke a. (differs-alone e (nd e h ke a), λ d. inr d))
 
     pub clean-exactly : Exactly g p ρ rows t → Exactly-or g p ρ rows f t
-    clean-exactly x e h ke a = let r = x e h ke a in (λ j. inr (r .0 j), λ d. r .1 (differs-alone e h ke a d))
-
--- who is live after a flush was so before
-pub flush-alive : (q : List ℕ) (s : St) (e : ℕ) → flushOn s q .gone e ≡ false → s .gone e ≡ false
-flush-alive q s e a = either (s .gone e) (λ z. clash (flushOn-keeps q s .gone e z) a) (λ z. z)
+    clean-exactly = runs-by (λ e. Differs (ρ e) (φ g p)) (λ e. (f e ≡ true) ⊎ Differs (ρ e) (φ g p)) (λ e h ke a. (λ d. inr d, differs-alone e (nd e h ke a)))
 
 module _ (g : Given) (st : Static g) (p : ℕ → Value) (ρ : Records) where
   -- a flush
   pub flush-exact : (q : List ℕ) (s : St) (k : ℕ) → Inside g nobody s → Inv g p ρ nobody nobody s → (f : Flushed g p ρ k q s (flushOn s q)) → Exactly-or g p ρ (f .rows) (λ e. s .fl e .dirty) (flushOn s q)
-  flush-exact q s k i v f e h ke a =
-      let b = flush-alive q s e a in
-      let r = f .runs e h ke a in
-      either (s .fl e .dirty) (λ d. (λ j. inl d, λ z. r .1 (inl d)))
-      (λ d. (λ j. inr (due-differs g st p ρ s i v e h ke b d (r .0 j)), λ z. r .1 (go d z (differs-due g st p ρ s i v e h ke b d))))
+  flush-exact q s k i v f =
+      runs-by g p ρ (f .rows) s (flushOn s q) (f .passes) (Due g p s) (λ e. (s .fl e .dirty ≡ true) ⊎ Differs (ρ e) (φ g p))
+      (λ e h ke b. either (s .fl e .dirty) (λ d. (λ z. inl d, λ z. inl d)) (λ d. (λ z. inr (due-differs g st p ρ s i v e h ke b d z), go e d (differs-due g st p ρ s i v e h ke b d)))) (f .causes, f .runs)
     where
-      go : s .fl e .dirty ≡ false → (s .fl e .dirty ≡ true) ⊎ Differs (ρ e) (φ g p) → (Differs (ρ e) (φ g p) → Due g p s e) → Due g p s e
-      go d (inl z) f = clash z d
-      go d (inr z) f = f z
+      go : (e : ℕ) → s .fl e .dirty ≡ false → (Differs (ρ e) (φ g p) → Due g p s e) → (s .fl e .dirty ≡ true) ⊎ Differs (ρ e) (φ g p) → Due g p s e
+      go e d f (inl z) = clash z d
+      go e d f (inr z) = f z
 
   -- nothing queued: every live effect has read the fresh values, and none is dirty
   at-quiet : (s : St) → Inside g nobody s → s .queue ≡ [] → (e : ℕ) → e < g .size → g .kind e ≡ effect → s .gone e ≡ false → s .fl e ≡ f2
@@ -107,9 +114,9 @@ module _ (g : Given) (st : Static g) (p : ℕ → Value) (ρ : Records) where
 
   pub quiet-exact : (s : St) → Inside g nobody s → Inv g p ρ nobody nobody s → s .queue ≡ [] → Exactly g p ρ [] s
   unfolding whos
-  quiet-exact s i v is e h k a = (
-    λ j. absurd j,
-    λ d. absurd (nothing-differs (g .form e) (φ g p)
+  quiet-exact s i v is = (
+    λ e j. absurd j,
+    λ e h k a d. absurd (nothing-differs (g .form e) (φ g p)
         (subst (λ (x : List (ℕ × Value)). Differs x (φ g p)) (quiet g st p ρ nobody s i v e h k a (λ z. z) (λ m z y. z) (ap unclean (at-quiet s i is e h k a))) d)),
   )
 
@@ -143,7 +150,8 @@ module _ (g : Given) (st : Static g) (p : ℕ → Value) (ρ : Records) (s : St)
       let f = flush-fresh g st p′ (x .queue) x ρ xi refl xv fits in
       record {
         settled = record { rows = f .rows; logged = f .logged; fresh = f .fresh; once = f .once; keeps = f .keeps; passes = f .passes; later = f .later; spent = f .spent };
-        exact = λ z. exactly-clean g p′ ρ (f .rows) (flushOn x (x .queue)) (λ m. x .fl m .dirty) (λ m a b c. effect-dirty g st p ρ s n v i h kn w goes m b ∙ undirtied g st p ρ s i (calm e) m a b (flush-alive (x .queue) x m c)) (flush-exact g st p′ ρ (x .queue) x _ xi xv f);
+        exact = λ z. exactly-clean g p′ ρ (f .rows) x (flushOn x (x .queue)) (f .passes) (λ m. x .fl m .dirty)
+            (λ m a b c. effect-dirty g st p ρ s n v i h kn w goes m b ∙ undirtied g st p ρ s i (calm e) m a b c) (flush-exact g st p′ ρ (x .queue) x _ xi xv f);
         silent = λ z. absurd (z e);
         stored = λ z. absurd (z e);
         dirty = λ z. absurd (z e);

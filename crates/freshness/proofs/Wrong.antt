@@ -98,7 +98,7 @@ none-is-right = (
   λ d. let e : nothing ≡ value (pos 5) = d room refl (signal5 ∷ []) read0 (omega arith) .0 .accepted (readIt (pos 0)) refl refl .value in false≢true (sym (ap isZero e)),
   λ d. let e = d room refl (signal5 ∷ []) effect0 (omega arith) .0 .accepted (makeEffect (negsuc 0) (pos 2 ∷ pos 0 ∷ [])) refl refl .made (negsuc 0) (pos 2 ∷ pos 0 ∷ []) refl in longer (e .0) (e .2),
   λ d. let e = d room refl [] signal5 (omega arith) .0 .accepted (makeSignal (pos 5)) refl refl .none-else (λ o cs q. not-it (makeSignal (pos 5)) (makeEffect o cs) refl q) refl in longer _ (sym e),
-  λ d. d room refl (signal5 ∷ effect0 ∷ set6 ∷ []) set7 (omega arith) .0 .accepted (setTo (pos 0) (pos 7)) refl refl .exactly refl 1 (omega arith, refl, refl) .1
+  λ d. d room refl (signal5 ∷ effect0 ∷ set6 ∷ []) set7 (omega arith) .0 .accepted (setTo (pos 0) (pos 7)) refl refl .exactly refl .1 1 (omega arith, refl, refl)
       (record { node = 0; was = value (pos 6); read = inl (refl, refl); new = λ e. false≢true (yes-same (value (pos 7)) (value (pos 6)) e) }),
   λ d. let e : _≡_ {A = ℕ} 3 0 = d room refl (signal5 ∷ []) read0 (omega arith) .0 .code in absurd (omega arith),
   λ d. let e : _≡_ {A = ℕ} 7 0 = d room refl [] signal5 (omega arith) .1 .agrees .depth in absurd (omega arith),

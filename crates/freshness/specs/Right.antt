@@ -40,6 +40,10 @@ abbrev pub FreshRows : (ℕ → Tree) → (ℕ → Value) → List Row → Type 
 FreshRows form φ [] = Unit {0}
 FreshRows form φ (r ∷ rs) = (r .worth ≡ worth (form (r .who)) φ) × (r .reads ≡ readings (form (r .who)) φ) × FreshRows form φ rs
 
+-- nobody has a row without cause, and who has cause and is live after it has one
+abbrev pub Run : (ℕ → Type 0) → Nodes → List Row → Type 0
+Run Cause g rs = ((e : ℕ) → HasRow e rs → Cause e) × ((e : ℕ) → LiveEffect g e → Cause e → HasRow e rs)
+
 -- a flush follows: a set or add at depth 0, also where nothing is queued, or an end at depth 1
 abbrev pub flushes : Past → Command → Bool
 flushes p (makeSignal v) = false
@@ -84,11 +88,10 @@ pub record RightRuns (p : Past) (k : Command) (a : Answer) (q : Past) : Type 0 w
   pub live : LiveRows (changed k (p .nodes)) (a .rows)
   pub made : (o : ℤ) (cs : List ℤ) → k ≡ makeEffect o cs → (r : Row) × (r .who ≡ p .nodes .size) × (a .rows ≡ r ∷ [])
   pub none-else : ((o : ℤ) (cs : List ℤ) → k ≡ makeEffect o cs → ⊥) → flushes p k ≡ false → a .rows ≡ []
-  -- 3: it has a row exactly if something that its last run read now has another value
-  pub exactly : closes p k ≡ true → (e : ℕ) → LiveEffect (q .nodes) e → (HasRow e (a .rows) → Differs (p .reads e) (valuesNow q)) × (Differs (p .reads e) (valuesNow q) → HasRow e (a .rows))
-  -- 4: in any flush also what was found to be stale since the batch began
-  pub runs : flushes p k ≡ true → (e : ℕ) → LiveEffect (q .nodes) e
-      → (HasRow e (a .rows) → (p .found e ≡ true) ⊎ Differs (p .reads e) (valuesNow q)) × ((p .found e ≡ true) ⊎ Differs (p .reads e) (valuesNow q) → HasRow e (a .rows))
+  -- 3: what runs are the effects that read something in their last run that now has another value
+  pub exactly : closes p k ≡ true → Run (λ e. Differs (p .reads e) (valuesNow q)) (q .nodes) (a .rows)
+  -- 4: in any flush also those of which something was found stale since the batch began
+  pub runs : flushes p k ≡ true → Run (λ e. (p .found e ≡ true) ⊎ Differs (p .reads e) (valuesNow q)) (q .nodes) (a .rows)
 
 -- no state is asked for it: an engine is judged by its answers
 pub record Right (p : Past) (c : Call) (a : Answer) (q : Past) : Type 0 where
