@@ -18,7 +18,7 @@ use Rattle.meaning.specs.Commands.{Answer, accepted, perform, performAny, answe
 use Rattle.freshness.specs.Afresh.{afreshOf, recorded, moved, rested, Among, Differs}
 use Rattle.freshness.specs.Nodes.{changed, ran}
 use Rattle.freshness.specs.Evaluations.{inPerformAny, inAnswer, inPerform}
-use Rattle.freshness.specs.History.{Call, meant, inCall, Past, written, depthAfter, isWrite, writesOn, foundOn, next, Course, now, after, begin}
+use Rattle.freshness.specs.History.{Call, seen, meant, inCall, Past, written, depthAfter, isWrite, writesOn, foundOn, next, Course, now, after, begin}
 use Rattle.freshness.specs.Right.{HasRow, NoTwo, LiveEffect, LiveRows, FreshRows, valuesNow, returned, Run, RightRuns, Right, Recorded, Agrees, Held, Demand3}
 use Rattle.meaning.proofs.Laws.{false≢true, same-some}
 use Rattle.meaning.proofs.Still.{Given, given}
@@ -90,7 +90,7 @@ is-ours p e = ap (λ (o : St). let x : Course = record { st = p .st; past = reco
 
 -- what one call is asked
 abbrev Good : Course → Call → Type 0
-Good p c = now meant p c .past .many < 2 ^ 64 → Sound (now meant p c) × Right (p .past) c (meant (p .st) c) (now meant p c .past) × Held (meant (p .st) c .st) (now meant p c .past)
+Good p c = now meant p c .past .many < 2 ^ 64 → Sound (now meant p c) × Right (p .past) c (seen (meant (p .st) c)) (now meant p c .past) × Held (meant (p .st) c .st) (now meant p c .past)
 
 module _ (p₀ : Course) (so : Sound (as-ours p₀)) (c : Call) where
   abbrev p : Past
@@ -104,7 +104,7 @@ module _ (p₀ : Course) (so : Sound (as-ours p₀)) (c : Call) where
 
   -- what is asked of the answer, but for its code; and of the state
   abbrev Fine : Answer → Past → Type 0
-  Fine a q = ((k : Command) → commandOf ws ≡ some k → a .code ≡ 0 → RightRuns p k a q) × ((a .code ≡ 0 → ⊥) → (a .val ≡ nothing) × (a .rows ≡ [])) × Held (a .st) q
+  Fine a q = ((k : Command) → commandOf ws ≡ some k → a .code ≡ 0 → RightRuns p k (seen a) q) × ((a .code ≡ 0 → ⊥) → (a .val ≡ nothing) × (a .rows ≡ [])) × Held (a .st) q
 
   -- an accepted command k leaves t and v, after j evaluations
   module _ (k : Command) (e : commandOf ws ≡ some k) (t : St) (v : Value) (j : ℕ) (f : Well s t) where
@@ -172,7 +172,7 @@ module _ (p₀ : Course) (so : Sound (as-ours p₀)) (c : Call) where
       alive : (m : ℕ) → LiveEffect (q .nodes) m → (m < t .size) × (t .kind m ≡ effect) × (t .gone m ≡ false)
       alive m lm = let z = shows .size in let y = lm .0 in let h : m < t .size = omega arith in (h, ap (λ (kd : ℕ → Kind). kd m) (shows .kind) ∙ lm .1, told-of .1 m h ∙ lm .2)
 
-      right-runs : RightRuns p k a q
+      right-runs : RightRuns p k (seen a) q
       right-runs = record {
         value = r .value ∙ ap (λ (g : ℕ → Value). returned (p .nodes .size) g k) values;
         rows = subst (λ (fm : ℕ → Tree). FreshRows fm (valuesNow q) rs) (shows .form) (subst (λ (g : ℕ → Value). FreshRows (t .form) g rs) values (fresh-rows (given t) last rs (r .fresh)));
@@ -191,7 +191,7 @@ module _ (p₀ : Course) (so : Sound (as-ours p₀)) (c : Call) where
 
       pub fine-after : Fine a q
       fine-after = (
-        λ k′ z y. subst (λ (b : Command). RightRuns p b a q) (same-some (sym e ∙ z)) right-runs,
+        λ k′ z y. subst (λ (b : Command). RightRuns p b (seen a) q) (same-some (sym e ∙ z)) right-runs,
         λ z. absurd (z refl),
         record {
           agrees = agrees;

@@ -18,7 +18,7 @@ use Rattle.meaning.specs.Commands.{perform, performAny, answer, command}
 use Rattle.freshness.specs.Afresh.{recorded}
 use Rattle.freshness.specs.Evaluations.{inFormula, inFirst, inUpdate, inCheckOn, inCheck, inPending, inFreshW, inFresh, inRerun, inRun, inFlushOn, inStore, inNewEffect, inPerform, inPerformAny, inAnswer}
 use Rattle.meaning.specs.State.{Room}
-use Rattle.freshness.specs.History.{Call, meant, written as lastWritten, next, Course, after, now, begin}
+use Rattle.freshness.specs.History.{Call, seen, meant, written as lastWritten, next, Course, after, now, begin}
 use Rattle.freshness.specs.Right.{Right, Held, Demand3}
 use Rattle.freshness.proofs.History.{demand3}
 
@@ -44,6 +44,6 @@ four = refl
 abbrev before : Course
 before = after meant (begin room) history
 
-pub used : Right (before .past) last (meant (before .st) last) (now meant before last .past) × Held (meant (before .st) last .st) (now meant before last .past)
+pub used : Right (before .past) last (seen (meant (before .st) last)) (now meant before last .past) × Held (meant (before .st) last .st) (now meant before last .past)
 unfolding Demand3
 used = demand3 room refl history last (let e = four in omega arith)

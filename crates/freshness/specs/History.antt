@@ -19,6 +19,15 @@ pub record Call : Type 0 where
   pub rows : ℕ
   pub words : List ℤ
 
+-- what is seen of an answer
+pub record Reply : Type 0 where
+  pub code : ℕ
+  pub val : Value
+  pub rows : List Row
+
+abbrev pub seen : Answer → Reply
+seen a = record { code = a .code; val = a .val; rows = a .rows }
+
 -- what a call answers in a state
 abbrev pub Engine : Type 0
 Engine = St → Call → Answer
@@ -103,7 +112,7 @@ next p s m zero rows (some k) = record {
   found = foundOn (depthAfter k (p .depth)) (rested (λ e. p .found e || moved (p .ours .sto) (s .sto) (p .reads e)) rows);
 }
 
-abbrev pub told : Past → Call → Answer → Past
+abbrev pub told : Past → Call → Reply → Past
 told p c a = next p (meant (p .ours) c .st) (inCall (p .ours) c) (a .code) (a .rows) (commandOf (c .words))
 
 abbrev pub begun : Room → Past
@@ -115,7 +124,7 @@ pub record Course : Type 0 where
   pub past : Past
 
 abbrev pub now : Engine → Course → Call → Course
-now E p c = record { st = E (p .st) c .st; past = told (p .past) c (E (p .st) c) }
+now E p c = record { st = E (p .st) c .st; past = told (p .past) c (seen (E (p .st) c)) }
 
 unfoldable pub after : Engine → Course → List Call → Course
 after E p [] = p

@@ -12,10 +12,9 @@ use Rattle.primitive.specs.Values.{value}
 use Rattle.formula.specs.Trees.{Tree, worth}
 use Rattle.meaning.specs.State.{St, effect, signal, Room, capacities, Row, readable, nothing}
 use Rattle.meaning.specs.Words.{Command, makeSignal, makeComputed, makeEffect, makeScope, setTo, addTo, readOf, disposeOf, batchStart, batchEnd, commandOf, nodeOf}
-use Rattle.meaning.specs.Commands.{Answer}
 use Rattle.freshness.specs.Afresh.{afreshOf, readings, Among, Differs}
 use Rattle.freshness.specs.Nodes.{Nodes, stripped, changed}
-use Rattle.freshness.specs.History.{Call, Engine, meant, Past, now, after, begin}
+use Rattle.freshness.specs.History.{Call, Reply, seen, Engine, meant, Past, now, after, begin}
 
 -- e has a row
 abbrev pub HasRow : ℕ → List Row → Type 0
@@ -78,8 +77,8 @@ returned size fresh (disposeOf n) = nothing
 returned size fresh batchStart = nothing
 returned size fresh batchEnd = nothing
 
--- of an accepted command k with the answer a; p: before it; q: after it
-pub record RightRuns (p : Past) (k : Command) (a : Answer) (q : Past) : Type 0 where
+-- of an accepted command k with the reply a; p: before it; q: after it
+pub record RightRuns (p : Past) (k : Command) (a : Reply) (q : Past) : Type 0 where
   -- 1: reads and rows are fresh
   pub value : a .val ≡ returned (p .nodes .size) (valuesNow q) k
   pub rows : FreshRows (q .nodes .form) (valuesNow q) (a .rows)
@@ -93,8 +92,8 @@ pub record RightRuns (p : Past) (k : Command) (a : Answer) (q : Past) : Type 0 w
   -- 4: in any flush also those of which something was found stale since the batch began
   pub runs : flushes p k ≡ true → Run (λ e. (p .found e ≡ true) ⊎ Differs (p .reads e) (valuesNow q)) (q .nodes) (a .rows)
 
--- no state is asked for it: an engine is judged by its answers
-pub record Right (p : Past) (c : Call) (a : Answer) (q : Past) : Type 0 where
+-- an engine is judged by its replies: no state is asked for it
+pub record Right (p : Past) (c : Call) (a : Reply) (q : Past) : Type 0 where
   pub code : a .code ≡ meant (p .ours) c .code  -- document 01's refusals
   pub accepted : (k : Command) → commandOf (c .words) ≡ some k → a .code ≡ 0 → RightRuns p k a q
   pub refused : (a .code ≡ 0 → ⊥) → (a .val ≡ nothing) × (a .rows ≡ [])
@@ -125,4 +124,4 @@ pub record Held (s : St) (p : Past) : Type 0 where
 unfoldable pub Demand3 : Engine → Type 0
 Demand3 E =
     (r : Room) → capacities r ≡ true → (h : List Call) (c : Call) → let p = after E (begin r) h in let a = E (p .st) c in let q = now E p c .past in
-    q .many < 2 ^ 64 → Right (p .past) c a q × Held (a .st) q
+    q .many < 2 ^ 64 → Right (p .past) c (seen a) q × Held (a .st) q
