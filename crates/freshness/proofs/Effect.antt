@@ -20,6 +20,7 @@ use Rattle.meaning.specs.WellFormed.{In, readLinks}
 use Rattle.freshness.specs.Afresh.{readings}
 use Rattle.meaning.specs.Evaluations.{countRerun}
 use Rattle.freshness.specs.Evaluations.{inFormula, inFresh, inRerun}
+use Rattle.freshness.specs.Nodes.{owns}
 use Rattle.meaning.proofs.Laws.{clash, false≢true, either, up-same, up-other, in-left}
 use Rattle.meaning.proofs.Members.{nil-none}
 use Rattle.meaning.proofs.Rings.{purge-ring, evaluate-ring}
@@ -40,6 +41,7 @@ use Rattle.freshness.proofs.Step.{Settles, Midway, evaluated}
 use Rattle.freshness.proofs.Purge.{Spent, purge-spends, drops-keep}
 use Rattle.freshness.proofs.Check.{settles-of}
 use Rattle.freshness.proofs.Whole.{limit, raises, sound}
+use Rattle.freshness.proofs.Gone.{strictly-owned}
 
 -- all but the effects other than e that are live in t
 abbrev pub Aside : Given → ℕ → St → Set
@@ -56,6 +58,7 @@ told g p ρ e = up ρ e (readings (g .form e) (φ g p))
 pub record Reran (g : Given) (p : ℕ → Value) (ρ : Records) (e k : ℕ) (s t : St) : Type 0 where
   pub keeps : Inv g p (told g p ρ e) nobody nobody t
   pub row : t .log ≡ s .log ++ rowOf g p e ∷ []
+  pub spares : (m : ℕ) → m < g .size → owns (g .owner) e m ≡ false → t .gone m ≡ s .gone m
   pub moves : Moves g p (Aside g e t) nobody e k s t
 
 pub reran-as : {g : Given} {p : ℕ → Value} {ρ : Records} {e : ℕ} (j k : ℕ) {s t : St} → j ≡ k → Reran g p ρ e j s t → Reran g p ρ e k s t
@@ -238,6 +241,8 @@ module _ (g : Given) (st : Static g) (p : ℕ → Value) (ρ : Records) (e : ℕ
         record {
           keeps = effect-ends (o .st) start (mid .ev) reading (mid .inv) (logged o e .log) t ie (pu .inside) z (pu .dropped .dep, pu .dropped .sub) (pu .dropped .fate) (pu .spares .safe) (pu .done) (pu .rest);
           row = ap (λ (f : Fixed). f .log) (purge-ring Still drops-still ended e .same) ∙ row-is;
+          spares = λ m h no. either (readable (g .kind m)) (λ r. pu .inside .gone-kind m h r ∙ sym (i .gone-kind m h r))
+              (λ r. pu .dropped .flags m (strictly-owned g st e m h r no) .1 ∙ f-went g st e he ke s s₁ i l i₁ f₁ empty left .gone m r);
           moves = to-end t (z .sto) (z .ver) (z .cycle) (λ m a. stays t (pu .inside) m a (z .flags m) ∙ up-other (o .st .fl) e f2 m (λ q. a (inr (inl q))));
         }
       where
@@ -261,6 +266,7 @@ module _ (g : Given) (st : Static g) (p : ℕ → Value) (ρ : Records) (e : ℕ
           keeps = effect-ends (o .st) start (mid .ev) reading (mid .inv) (logged o e .log) ended ie ie
               (record { sto = refl; pend = refl; ver = refl; dep = refl; sub = refl; cycle = refl; fewer = λ k a. a; gone = λ m a. a; flags = λ m. inl refl }) (refl, refl) (λ m. inl refl) (λ m q. inl (refl, refl)) refl (mid .base .tail tail);
           row = row-is;
+          spares = λ m h no. either (readable (g .kind m)) (λ r. ie .gone-kind m h r ∙ sym (i .gone-kind m h r)) (λ r. f-went g st e he ke s s₁ i l i₁ f₁ empty left .gone m r);
           moves = to-end ended refl refl refl (λ m a. up-other (o .st .fl) e f2 m (λ q. a (inr (inl q))));
         }
 

@@ -1,11 +1,12 @@
 -- T3: the flush. An effect that is live after it has a row in it exactly if, before it, it was dirty or a stored value that it read was not the fresh one; each row is that of the fresh values. Assumes nothing.
 use mathlib.Core.Path.{_≡_, refl, sym, ap, _∙_, subst}
 use mathlib.Core.Logic.{_⊎_, inl, inr}
-use mathlib.Core.Bool.{true, false}
+use mathlib.Core.Bool.{Bool, true, false, _||_}
 use mathlib.Core.List.{List, [], _∷_, _++_, append-assoc, append-nil}
 use Prim.Native.Nat.{ℕ, _+_, _≤_, _<_}
 use native.Mathlib.Omega.{arith}
 use lib.Dec.{eqb}
+use lib.ListN.{length, length-append}
 use borrow.Author.Tests.{eqb-true, eqb-false}
 use Rattle.primitive.specs.declared.flags.Named.{Named}
 use Rattle.primitive.specs.declared.values.Value.{Value}
@@ -16,7 +17,8 @@ use Rattle.meaning.specs.WellFormed.{In, Once, EffectFlags, watching, pushed, p
 use Rattle.freshness.specs.Afresh.{recorded}
 use Rattle.meaning.specs.Evaluations.{countFlushOn}
 use Rattle.freshness.specs.Evaluations.{inRun, inFlushOn}
-use Rattle.meaning.proofs.Laws.{clash, either}
+use Rattle.freshness.specs.Nodes.{owns}
+use Rattle.meaning.proofs.Laws.{clash, either, or-last, or-false}
 use Rattle.meaning.proofs.Members.{nil-none, reads-in, reads-sub}
 use Rattle.meaning.proofs.Still.{Given}
 use Rattle.meaning.proofs.Kept.{run-keeps, flushOn-keeps}
@@ -28,6 +30,7 @@ use Rattle.freshness.proofs.Inv.{Records, Linked, Inv}
 use Rattle.freshness.proofs.Clean.{φ, dep-moves, clean}
 use Rattle.freshness.proofs.Moves.{Changed, Moves}
 use Rattle.freshness.proofs.Whole.{limit}
+use Rattle.freshness.proofs.Gone.{owns-gone, Passes, passes-same, row-alive}
 use Rattle.freshness.proofs.Effect.{Aside, rowOf, told}
 use Rattle.freshness.proofs.Run.{Stale, Due, Ran, quiet, ran, RunFresh, nothing-due, run-fresh}
 
@@ -42,8 +45,10 @@ pub record Flushed (g : Given) (p : ℕ → Value) (ρ : Records) (k : ℕ) (q :
   pub fresh : Rowed g p rows
   pub once : Once (whos rows)
   pub queued : (e : ℕ) → In e (whos rows) → In e q
+  pub passes : Passes g (s .gone) rows (t .gone)
   pub keeps : Inv g p (recorded ρ rows) nobody nobody t
-  pub runs : (e : ℕ) → e < g .size → g .kind e ≡ effect → t .gone e ≡ false → (In e (whos rows) → Due g p s e) × (Due g p s e → In e (whos rows))
+  pub causes : (e : ℕ) → In e (whos rows) → Due g p s e
+  pub runs : (e : ℕ) → e < g .size → g .kind e ≡ effect → t .gone e ≡ false → Due g p s e → In e (whos rows)
   pub later : s .cycle ≤ t .cycle
   pub spent : t .cycle ≤ s .cycle + k
 
@@ -151,10 +156,10 @@ module _ (g : Given) (st : Static g) (p : ℕ → Value) where
     alive-s m a = either (s .gone m) (λ b. clash (run-keeps (withQueue s q) e .gone m b) (alive-x m a)) (λ b. b)
 
     -- another effect is due before exactly if it is after
-    both : (m : ℕ) → m < g .size → g .kind m ≡ effect → t .gone m ≡ false → (m ≡ e → ⊥) → (Due g p s m → Due g p x m) × (Due g p x m → Due g p s m)
+    both : (m : ℕ) → m < g .size → g .kind m ≡ effect → x .gone m ≡ false → (m ≡ e → ⊥) → (Due g p s m → Due g p x m) × (Due g p x m → Due g p s m)
     both m h km a ne =
         let on = run-inside g st e he ke s q i is in
-        let same = only-same (on .reads m h km (alive-x m a)) in
+        let same = only-same (on .reads m h km a) in
         (due-after g st p ρ s q x e k m i (on .inside) v (rf .moves) same out km, due-before g st p ρ s q x e k m i (on .inside) v (rf .moves) same out km)
       where
         only-same : SameReads (g .kind) s x m ⊎ ((m ≡ e) × (x .log ≡ s .log → ⊥)) → SameReads (g .kind) s x m
@@ -164,7 +169,7 @@ module _ (g : Given) (st : Static g) (p : ℕ → Value) where
         out : Aside g e x m → ⊥
         out (inl z) = z (h, km)
         out (inr (inl z)) = ne z
-        out (inr (inr z)) = clash z (alive-x m a)
+        out (inr (inr z)) = clash z a
 
     to-s : Due g p (withQueue s q) e → Due g p s e
     to-s (inl d) = inl d
@@ -174,9 +179,15 @@ module _ (g : Given) (st : Static g) (p : ℕ → Value) where
     from-s (inl d) = inl d
     from-s (inr w) = inr (record { link = w .link; live = w .live; to = w .to; reads = w .reads; old = w .old })
 
+    -- who has a row later was due before e ran
+    before : (j : ℕ) (ρ′ : Records) (n : Flushed g p ρ′ j q x t) (m : ℕ) → In m (whos (n .rows)) → Due g p s m
+    before j ρ′ n m z =
+        let a = row-alive g (n .rows) (x .gone) (t .gone) (n .passes) m z in
+        both m (a .0) (a .1) (a .2) (λ y. ones .0 (subst (λ (b : ℕ). In b q) y (n .queued m z))) .1 (n .causes m z)
+
     one : (j : ℕ) → Ran g p ρ e (withQueue s q) x → ((ρ′ : Records) → Inv g p ρ′ nobody nobody x → Flushed g p ρ′ j q x t) → Flushed g p ρ (k + j) (e ∷ q) s t
     unfolding whos recorded
-    one j (quiet lg vx nd) f =
+    one j (quiet lg vx nd same) f =
         let n = f ρ vx in
         let a₁ = rf .moves .later in
         let a₂ = rf .moves .spent in
@@ -188,17 +199,16 @@ module _ (g : Given) (st : Static g) (p : ℕ → Value) where
           fresh = n .fresh;
           once = n .once;
           queued = λ m z. inr (n .queued m z);
+          passes = passes-same g (n .rows) (x .gone) (s .gone) (t .gone) same (n .passes);
           keeps = n .keeps;
-          runs = λ m h km a. either (eqb m e)
-              (λ z. let y = eqb-true m e z in (
-                λ r. absurd (ones .0 (subst (λ (b : ℕ). In b q) y (n .queued m r))),
-                λ d. absurd (nd (alive-s e (subst (λ (b : ℕ). t .gone b ≡ false) y a)) (from-s (subst (λ (b : ℕ). Due g p s b) y d))),
-              ))
-              (λ z. let y = both m h km a (eqb-false m e z) in let r = n .runs m h km a in (λ u. y .1 (r .0 u), λ u. r .1 (y .0 u)));
+          causes = before j ρ n;
+          runs = λ m h km a d. either (eqb m e)
+              (λ z. let y = eqb-true m e z in absurd (nd (alive-s e (subst (λ (b : ℕ). t .gone b ≡ false) y a)) (from-s (subst (λ (b : ℕ). Due g p s b) y d))))
+              (λ z. n .runs m h km a (both m h km (alive-x m a) (eqb-false m e z) .0 d));
           later = omega arith;
           spent = omega arith;
         }
-    one j (ran lg vx du) f =
+    one j (ran lg vx du live spares) f =
         let n = f (told g p ρ e) vx in
         let a₁ = rf .moves .later in
         let a₂ = rf .moves .spent in
@@ -210,21 +220,29 @@ module _ (g : Given) (st : Static g) (p : ℕ → Value) where
           fresh = (refl, n .fresh);
           once = (λ z. ones .0 (n .queued e z), n .once);
           queued = λ m z. in-queue n m z;
+          passes = (he, ke, live, passes-same g (n .rows) (x .gone) (λ m. s .gone m || owns (g .owner) e m) (t .gone) (taken spares) (n .passes));
           keeps = n .keeps;
-          runs = λ m h km a. either (eqb m e)
-              (λ z. let y = eqb-true m e z in (λ r. subst (λ (b : ℕ). Due g p s b) (sym y) (to-s du), λ d. inl y))
-              (λ z. let y = both m h km a (eqb-false m e z) in let r = n .runs m h km a in (λ u. y .1 (r .0 (later (whos (n .rows)) m (eqb-false m e z) u)), λ u. inr (r .1 (y .0 u))));
+          causes = λ m z. caused n m z;
+          runs = λ m h km a d. either (eqb m e) (λ z. inl (eqb-true m e z)) (λ z. inr (n .runs m h km a (both m h km (alive-x m a) (eqb-false m e z) .0 d)));
           later = omega arith;
           spent = omega arith;
         }
       where
+        taken : ((m : ℕ) → m < g .size → owns (g .owner) e m ≡ false → x .gone m ≡ s .gone m) → (m : ℕ) → m < g .size → x .gone m ≡ s .gone m || owns (g .owner) e m
+        taken sp m h = either (owns (g .owner) e m)
+            (λ o. let on = run-inside g st e he ke s q i is in owns-gone g st x (on .inside) e (on .disposed logs) m h o ∙ sym (or-last (s .gone m) (owns (g .owner) e m) o))
+            (λ o. sp m h o ∙ sym (ap (λ (b : Bool). s .gone m || b) o ∙ or-false (s .gone m)))
+          where
+            logs : x .log ≡ s .log → ⊥
+            logs z = let a = ap (λ (b : List Row). length b) (sym z ∙ lg) in let b = length-append (s .log) (rowOf g p e ∷ []) in omega arith
+
         in-queue : (n : Flushed g p (told g p ρ e) j q x t) (m : ℕ) → In m (e ∷ whos (n .rows)) → In m (e ∷ q)
         in-queue n m (inl z) = inl z
         in-queue n m (inr z) = inr (n .queued m z)
 
-        later : (ws : List ℕ) (m : ℕ) → (m ≡ e → ⊥) → In m (e ∷ ws) → In m ws
-        later ws m ne (inl z) = absurd (ne z)
-        later ws m ne (inr z) = z
+        caused : (n : Flushed g p (told g p ρ e) j q x t) (m : ℕ) → In m (e ∷ whos (n .rows)) → Due g p s m
+        caused n m (inl z) = subst (λ (b : ℕ). Due g p s b) (sym z) (to-s du)
+        caused n m (inr z) = before j (told g p ρ e) n m z
 
   pub flush-fresh : (q : List ℕ) (s : St) (ρ : Records) → Inside g nobody s → s .queue ≡ q → Inv g p ρ nobody nobody s → s .cycle + inFlushOn s q < limit → Flushed g p ρ (inFlushOn s q) q s (flushOn s q)
   unfolding flushOn countFlushOn whos recorded
@@ -234,8 +252,10 @@ module _ (g : Given) (st : Static g) (p : ℕ → Value) where
     fresh = tt;
     once = tt;
     queued = λ e j. j;
+    passes = λ m h. refl;
     keeps = v;
-    runs = λ e h k a. (λ j. absurd j, λ d. absurd (idle ρ s i v is e h k a d));
+    causes = λ e j. absurd j;
+    runs = λ e h k a d. absurd (idle ρ s i v is e h k a d);
     later = omega arith;
     spent = omega arith;
   }

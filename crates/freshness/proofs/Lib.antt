@@ -14,6 +14,7 @@ pub mod Update
 pub mod Check
 pub mod Whole
 pub mod Write
+pub mod Gone
 pub mod Effect
 pub mod Run
 pub mod Flush
@@ -21,6 +22,10 @@ pub mod Exact
 pub mod Store
 pub mod Made
 pub mod Dispose
+pub mod Dirt
+pub mod Sound
+pub mod Between
 pub mod Command
 pub mod History
 pub mod Used
+pub mod Wrong

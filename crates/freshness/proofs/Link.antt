@@ -170,31 +170,32 @@ module _ (g : Given) (s : St) (n u v start : ℕ) (ns : List ℕ) (o : Slots g s
       (λ e. branch Goal (goesTo s (headOf (s .rest u)) n) (rule2 (s .rest u) refl)
       (λ f. branch Goal (isFrom s (lastOf (s .subs n)) u v) (rule3 (lastOf (s .subs n)) refl) (λ z. rule4 (s .free) refl)))
 
--- ---- a link changes no flag and no value
+-- ---- a link changes no flag, no value and no mark of being gone
 pub record Quiet (s t : St) : Type 0 where
   pub fl : t .fl ≡ s .fl
   pub sto : t .sto ≡ s .sto
   pub cycle : t .cycle ≡ s .cycle
+  pub gone : t .gone ≡ s .gone
 
-abbrev quiet : (s t : St) → t .fl ≡ s .fl → t .sto ≡ s .sto → t .cycle ≡ s .cycle → Quiet s t
-quiet s t a b c = record { fl = a; sto = b; cycle = c }
+abbrev quiet : (s t : St) → t .fl ≡ s .fl → t .sto ≡ s .sto → t .cycle ≡ s .cycle → t .gone ≡ s .gone → Quiet s t
+quiet s t a b c d = record { fl = a; sto = b; cycle = c; gone = d }
 
 renew-quiet : (s : St) (u v : ℕ) (ls : List ℕ) → Quiet s (renew s u v ls)
 unfolding renew
-renew-quiet s u v [] = quiet s _ refl refl refl
-renew-quiet s u v (l ∷ ls) = quiet s _ refl refl refl
+renew-quiet s u v [] = quiet s _ refl refl refl refl
+renew-quiet s u v (l ∷ ls) = quiet s _ refl refl refl refl
 
 insert-quiet : (s : St) (d u v : ℕ) (ls : List ℕ) → Quiet s (insert s d u v ls)
 unfolding insert
-insert-quiet s d u v [] = quiet s _ refl refl refl
-insert-quiet s d u v (l ∷ ls) = quiet s _ refl refl refl
+insert-quiet s d u v [] = quiet s _ refl refl refl refl
+insert-quiet s d u v (l ∷ ls) = quiet s _ refl refl refl refl
 
 pub link-quiet : (s : St) (d u v : ℕ) → Quiet s (link s d u v)
 unfolding link
 link-quiet s d u v =
-    branch (Quiet s) (goesTo s (lastOf (s .done u)) d) (λ e. quiet s s refl refl refl)
+    branch (Quiet s) (goesTo s (lastOf (s .done u)) d) (λ e. quiet s s refl refl refl refl)
     (λ e. branch (Quiet s) (goesTo s (headOf (s .rest u)) d) (λ f. renew-quiet s u v (s .rest u))
-    (λ f. branch (Quiet s) (isFrom s (lastOf (s .subs d)) u v) (λ z. quiet s s refl refl refl) (λ z. insert-quiet s d u v (s .free))))
+    (λ f. branch (Quiet s) (isFrom s (lastOf (s .subs d)) u v) (λ z. quiet s s refl refl refl refl) (λ z. insert-quiet s d u v (s .free))))
 
 -- and stamps only links of u
 module _ (g : Given) (s : St) (d u v : ℕ) (o : Slots g s) where

@@ -30,7 +30,7 @@ use Rattle.meaning.proofs.Frames.{frame-same}
 use Rattle.meaning.proofs.Reading.{Near}
 use Rattle.freshness.proofs.Forms.{named, readings-same, firsts}
 use Rattle.freshness.proofs.Inv.{Records, LinkedBy, Linked, ReadsBy, RightBy, Inv, right-moves, right-relink, Evaluated}
-use Rattle.freshness.proofs.Link.{link-quiet}
+use Rattle.freshness.proofs.Link.{Quiet, link-quiet}
 use Rattle.freshness.proofs.Moves.{moves-same, moves-wider}
 use Rattle.freshness.proofs.Whole.{limit}
 use Rattle.freshness.proofs.Effect.{Reran, reran-as, first-fresh}
@@ -151,7 +151,7 @@ module _ (s : St) (w : WellFormed s) (k : Kind) (t : Tree) (b : Named) (v : Valu
     }
 
   -- with its owner's link
-  owned-keeps : (o : Option ℕ) (fits : Fits s k t o) → ((q : ℕ) → o ≡ some q → readable k ≡ false) → Inv (given (node s k t o b v)) (node s k t o b v .pend) ρ (also nobody n) (also nobody n) (owned (node s k t o b v) n o)
+  pub owned-keeps : (o : Option ℕ) (fits : Fits s k t o) → ((q : ℕ) → o ≡ some q → readable k ≡ false) → Inv (given (node s k t o b v)) (node s k t o b v .pend) ρ (also nobody n) (also nobody n) (owned (node s k t o b v) n o)
   owned-keeps none fits h = new-keeps none fits
   owned-keeps (some q) fits h =
       let ok = fits .owner q refl in
@@ -187,10 +187,10 @@ module _ (s : St) (w : WellFormed s) (k : Kind) (t : Tree) (b : Named) (v : Valu
       no-links : (x : St) → x .done n ≡ [] → x .rest n ≡ [] → (l : ℕ) → In l (x .done n ++ x .rest n) → ⊥
       no-links x e f l j = subst (λ (xs : List ℕ). In l xs) f (subst (λ (xs : List ℕ). In l (xs ++ x .rest n)) e j)
 
--- an owner's link leaves the cycle alone
-pub owned-cycle : (s : St) (n : ℕ) (o : Option ℕ) → owned s n o .cycle ≡ s .cycle
-owned-cycle s n none = refl
-owned-cycle s n (some q) = link-quiet s n q 0 .cycle
+-- an owner's link leaves flags, values, gone marks and the cycle alone
+pub owned-quiet : (s : St) (n : ℕ) (o : Option ℕ) → Quiet s (owned s n o)
+owned-quiet s n none = record { fl = refl; sto = refl; cycle = refl; gone = refl }
+owned-quiet s n (some q) = link-quiet s n q 0
 
 -- ---- a new effect
 pub effect-fresh : (s : St) (w : WellFormed s) (ρ : Records) → Inv (given s) (s .pend) ρ nobody nobody s → (o : Option ℕ) (t : Tree) (fits : Fits s effect t o) → s .cycle + inNewEffect s o t < limit
@@ -205,7 +205,7 @@ effect-fresh s w ρ inv o t fits =
     let kn = kind-new s w effect t o f6 nothing fits n refl in
     let left = subst (λ (z : List ℕ). length (readLinks (g .kind) (x .dep) z) ≤ length (names (g .form n))) (sym (m .rest)) (omega arith) in
     let e : x .form n ≡ g .form n = ap (λ (z : Given). z .form n) (m .inside .same) in
-    let cyc : x .cycle ≡ s .cycle = owned-cycle (node s effect t o f6 nothing) n o in
+    let cyc : x .cycle ≡ s .cycle = owned-quiet (node s effect t o f6 nothing) n o .cycle in
     subst (λ (f : Tree). s .cycle + suc (inFormula (readW (fresh (x .size)) n) (inFresh (x .size)) f x) < limit
     → Reran g (node s effect t o f6 nothing .pend) ρ n (suc (inFormula (readW (fresh (x .size)) n) (inFresh (x .size)) f x)) x (setFl (logged (evalBy (readW (fresh (x .size)) n) f x) n) n f2))
     (sym e)

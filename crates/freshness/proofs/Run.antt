@@ -17,6 +17,7 @@ use Rattle.meaning.specs.WellFormed.{In, readLinks, EffectFlags, watching, push
 use Rattle.freshness.specs.Afresh.{readings}
 use Rattle.meaning.specs.Evaluations.{countRun}
 use Rattle.freshness.specs.Evaluations.{inFresh, inCheck, inRerun, inRun}
+use Rattle.freshness.specs.Nodes.{owns}
 use Rattle.meaning.proofs.Laws.{clash, either, up-other}
 use Rattle.meaning.proofs.Rings.{check-ring}
 use Rattle.meaning.proofs.Still.{Given, Fixed, Still, renews-still}
@@ -31,6 +32,7 @@ use Rattle.freshness.proofs.Clean.{φ, dep-clean, dep-moves, clean}
 use Rattle.freshness.proofs.Moves.{Changed, Moves, moves-flags, moves-then, moves-wider}
 use Rattle.freshness.proofs.Check.{branches, Checks, check-fine}
 use Rattle.freshness.proofs.Whole.{limit, sound}
+use Rattle.freshness.proofs.Gone.{frame-gone}
 use Rattle.freshness.proofs.Effect.{Aside, rowOf, told, rerun-fresh}
 
 -- something that e reads is not stored fresh
@@ -46,8 +48,8 @@ Due g p s e = (s .fl e .dirty ≡ true) ⊎ Stale g p s e
 
 -- it ran, or it did not and there was no need
 pub data Ran (g : Given) (p : ℕ → Value) (ρ : Records) (e : ℕ) (s t : St) : Type 0 where
-  quiet : t .log ≡ s .log → Inv g p ρ nobody nobody t → (s .gone e ≡ false → Due g p s e → ⊥) → Ran g p ρ e s t
-  ran : t .log ≡ s .log ++ rowOf g p e ∷ [] → Inv g p (told g p ρ e) nobody nobody t → Due g p s e → Ran g p ρ e s t
+  quiet : t .log ≡ s .log → Inv g p ρ nobody nobody t → (s .gone e ≡ false → Due g p s e → ⊥) → ((m : ℕ) → m < g .size → t .gone m ≡ s .gone m) → Ran g p ρ e s t
+  ran : t .log ≡ s .log ++ rowOf g p e ∷ [] → Inv g p (told g p ρ e) nobody nobody t → Due g p s e → s .gone e ≡ false → ((m : ℕ) → m < g .size → owns (g .owner) e m ≡ false → t .gone m ≡ s .gone m) → Ran g p ρ e s t
 
 pub record RunFresh (g : Given) (p : ℕ → Value) (ρ : Records) (e k : ℕ) (s t : St) : Type 0 where
   pub outcome : Ran g p ρ e s t
@@ -95,7 +97,7 @@ module _ (g : Given) (st : Static g) (p : ℕ → Value) (ρ : Records) (e : ℕ
           val = λ m h k na mu d. let f = other m (ap readable k) in v .val m h k na (ap (λ (x : Named). x .mutable) (sym (flags m f)) ∙ mu) (ap (λ (x : Named). x .dirty) (sym (flags m f)) ∙ d);
           seen = λ m h k gn na d. either (eqb m e) (λ z. v .seen m h k gn na (ap (λ (b : ℕ). s .fl b .dirty) (eqb-true m e z) ∙ nd)) (λ z. v .seen m h k gn na (ap (λ (x : Named). x .dirty) (sym (flags m (eqb-false m e z))) ∙ d));
           rec = v .rec;
-        }) (λ a w. nothing-due g st p ρ s i v e nd np (again w));
+        }) (λ a w. nothing-due g st p ρ s i v e nd np (again w)) (λ m h. refl);
         moves = moves-flags g p (Aside g e t) nobody e 0 s′ t (λ l a b. refl) (λ m. inl refl) (λ m z. refl) (omega arith) (omega arith) (λ m z w. flags m (λ y. z (inr (inl y))));
       }
     where
@@ -145,7 +147,8 @@ module _ (g : Given) (st : Static g) (p : ℕ → Value) (ρ : Records) (e : ℕ
           let r = rerun-fresh g st p ρ e he ke t (w .inside) (lies-checked g st e he ke s q i is a reads pd) (w .frame .pending e far not-signal ∙ pd)
           (exempt g p ρ (Run g st e) (Run g st e) (also (Run g st e) e) (Run g st e) t (λ m z. z) (λ m z. less m z) (ck .stale y)) fits in
           record {
-            outcome = ran (r .row ∙ ap (λ (x : List Row). x ++ rowOf g p e ∷ []) log-same) (r .keeps) (due (ck .changed y));
+            outcome = ran (r .row ∙ ap (λ (x : List Row). x ++ rowOf g p e ∷ []) log-same) (r .keeps) (due (ck .changed y)) a
+                (λ m h no. r .spares m h no ∙ frame-gone g st (Run g st e) (Run g st e) (Low g e) e s′ t pop (w .inside) (w .frame) m h);
             moves = moves-then g p (Aside g e (rerun t e)) nobody e e much (inRerun t e) s′ t (rerun t e) (i .lists) (w .inside .lists) (wide (rerun t e)) (to-t (rerun t e)) (r .moves);
           }
         where
@@ -219,7 +222,7 @@ module _ (g : Given) (st : Static g) (p : ℕ → Value) (ρ : Records) (e : ℕ
                 rec = λ m h k gn nx. either (eqb m e)
                     (λ z. subst (λ (b : ℕ). ReadsBy (g .kind) (t .live) (t .dep) (t .sub) b (firsts (ρ b))) (sym (eqb-true m e z)) rec-now)
                     (λ z. tv .rec m h k gn (off m (eqb-false m e z)));
-              }) (λ z y. not-due y);
+              }) (λ z y. not-due y) (frame-gone g st (Run g st e) (Run g st e) (Low g e) e s′ t pop (w .inside) (w .frame));
               moves = moves-then g p (Aside g e x) nobody e e much 0 s′ t x (i .lists) (w .inside .lists) (wide x) (to-t x)
                   (moves-flags g p (Aside g e x) nobody e 0 t x (λ l y z. refl) (λ m. inl refl) (λ m z. refl) (omega arith) (omega arith) (λ m z y. flags m (λ u. z (inr (inl u)))));
             }
@@ -274,7 +277,7 @@ module _ (g : Given) (st : Static g) (p : ℕ → Value) (ρ : Records) (e : ℕ
           go a (watching x y) = clash d (ap (λ (z : Named). z .dirty) x)
           go a (pushed x y) = clash d (ap (λ (z : Named). z .dirty) x)
           go a (pending x y z) = clash d (ap (λ (z : Named). z .dirty) x)
-          go a (dirty x y z) = λ fits. let r = rerun-fresh g st p ρ e he ke s′ pop (lies g st e he ke s q i is a) (ap (λ (z : Named). z .pending) x) v′ fits in record { outcome = ran (r .row) (r .keeps) (inl d); moves = r .moves }
+          go a (dirty x y z) = λ fits. let r = rerun-fresh g st p ρ e he ke s′ pop (lies g st e he ke s q i is a) (ap (λ (z : Named). z .pending) x) v′ fits in record { outcome = ran (r .row) (r .keeps) (inl d) a (r .spares); moves = r .moves }
 
       at-pending : s .fl e .dirty ≡ false → s .fl e .pending ≡ true → s .cycle + many < limit → RunFresh g p ρ e many s′ after
       at-pending d y = either (s .gone e) (λ a. clash y (ap (λ (z : Named). z .pending) (was g st e he ke s q i is .queued (subst (In e) (sym is) (inl refl)) a))) (λ a. go a (was g st e he ke s q i is .of-effect ke a))

@@ -17,11 +17,13 @@ use Rattle.meaning.specs.Refusals.{liveEffects, asksOf, isA, unknown, wrongNode
 use Rattle.meaning.specs.Commands.{perform, performAny, answer, command}
 use Rattle.freshness.specs.Afresh.{recorded}
 use Rattle.meaning.specs.Evaluations.{inFormula, inUpdate, inCheckOn, inCheck, inPending, countFirst, countFlushOn, countFresh, countFreshW, countNewEffect, countPerform, countRerun, countRun, countStore}
+use Rattle.freshness.specs.Evaluations.{inPerformAny, inAnswer}
 use Rattle.meaning.specs.State.{Room}
-use Rattle.freshness.specs.History.{Call, meant, inPerformAny, inAnswer, written as lastWritten, next, after, now, begin, Right, Demand3}
+use Rattle.freshness.specs.History.{Call, seen, meant, written as lastWritten, next, Course, after, now, begin}
+use Rattle.freshness.specs.Right.{Right, Held, Demand3}
 use Rattle.freshness.proofs.History.{demand3}
 
-abbrev room : Room
+abbrev pub room : Room
 room = record { nodes = 16; slots = 32; cells = 32 }
 
 abbrev call : List ℤ → Call
@@ -36,10 +38,13 @@ abbrev last : Call
 last = call (pos 10 ∷ [])
 
 -- four evaluations: the effect and the computed, twice
-four : now meant (after meant (begin room) history) last .many ≡ 4
+four : now meant (after meant (begin room) history) last .past .many ≡ 4
 unfolding sum difference minimum maximum less clamp same sameNumber isZero cellOf codes readOf bareOf apply written size names up below empty remove each renew spent insert link cut lastLink disposeW unwatchedW unlinkN chain calm effects notify mark prop soil wakes evalBy settleW firstW updComputed updSignal updW sameSlots steady checkOn checkW pendingW freshW fresh logged rerun run flushOn store tallest newSignal newComputed newScope newEffect noWord word wholeCells commands commandOf afterCells grown parse treeOf total reserve liveEffects asksOf isA unknown wrongNode goneNode allReadable badFormula tooHigh noRoom wrongDepth fewRows refusals first refusal perform performAny answer command recorded inFormula countFirst inUpdate inCheckOn inCheck inPending countFreshW countFresh countRerun countRun countFlushOn countStore countNewEffect countPerform inPerformAny inAnswer lastWritten next after
 four = refl
 
-pub used : Right (after meant (begin room) history) last (meant .step (after meant (begin room) history .st) last) (now meant (after meant (begin room) history) last)
+abbrev before : Course
+before = after meant (begin room) history
+
+pub used : Right (before .past) last (seen (meant (before .st) last)) (now meant before last .past) × Held (meant (before .st) last .st) (now meant before last .past)
 unfolding Demand3
 used = demand3 room refl history last (let e = four in omega arith)

@@ -1,9 +1,11 @@
 -- Demand 3: the fresh value of a node is its formula worked out anew from the last written values. It knows nothing of links, flags or queues.
 use mathlib.Core.Path.{_≡_}
 use mathlib.Core.Logic.{_⊎_}
+use mathlib.Core.Bool.{Bool, false, not, _||_}
 use mathlib.Core.List.{List, [], _∷_}
 use Prim.Native.Nat.{ℕ, zero, suc}
 use Rattle.primitive.specs.declared.values.Value.{Value}
+use Rattle.primitive.specs.Values.{same}
 use Rattle.formula.specs.Trees.{Tree, worth, reads}
 use Rattle.meaning.specs.State.{St, Kind, signal, computed, effect, scope, Row, up}
 
@@ -32,6 +34,16 @@ readings t env = paired env (reads t env)
 unfoldable pub recorded : (ℕ → List (ℕ × Value)) → List Row → ℕ → List (ℕ × Value)
 recorded ρ [] = ρ
 recorded ρ (r ∷ rs) = recorded (up ρ (r .who) (r .reads)) rs
+
+-- something that was read has another value in b than in a
+unfoldable pub moved : (ℕ → Value) → (ℕ → Value) → List (ℕ × Value) → Bool
+moved a b [] = false
+moved a b (x ∷ xs) = not (same (a (x .0)) (b (x .0))) || moved a b xs
+
+-- f, but false of the effects that have run
+unfoldable pub rested : (ℕ → Bool) → List Row → ℕ → Bool
+rested f [] = f
+rested f (r ∷ rs) = rested (up f (r .who) false) rs
 
 -- the pair of d and v is one of these
 abbrev pub Among : ℕ → Value → List (ℕ × Value) → Type 0

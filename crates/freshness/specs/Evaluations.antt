@@ -1,11 +1,14 @@
 -- How many evaluations an operation makes: the counts of `meaning`, first ones and later ones.
 use mathlib.Core.Bool.{true}
-use mathlib.Core.List.{List}
-use mathlib.Core.Option.{Option}
-use Prim.Native.Nat.{ℕ}
+use mathlib.Core.List.{List, []}
+use mathlib.Core.Option.{Option, none, some}
+use Prim.Native.Nat.{ℕ, zero, suc}
+use lib.IntN.{ℤ}
 use Rattle.primitive.specs.declared.values.Value.{Value}
 use Rattle.formula.specs.Trees.{Tree}
 use Rattle.meaning.specs.State.{St}
+use Rattle.meaning.specs.Setters.{withLog}
+use Rattle.meaning.specs.Words.{Command, commandOf}
 use Rattle.meaning.specs.Reads.{Ans}
 use Rattle.meaning.specs.Evaluations.{countFirst, countFreshW, countFresh, countRead, countRerun, countRun, countFlushOn, countFlushAt, countStore, countNewEffect, countEnd}
 unfoldable pub use Rattle.meaning.specs.Evaluations.{inFormula, inCheckOn, inCheck, inUpdate, inPending}
@@ -43,3 +46,12 @@ inNewEffect = countNewEffect true
 
 abbrev pub inEnd : St → ℕ → ℕ
 inEnd = countEnd true
+
+-- ---- of a call
+unfoldable pub inPerformAny : St → Option Command → ℕ
+inPerformAny s none = 0
+inPerformAny s (some c) = inPerform s c
+
+unfoldable pub inAnswer : ℕ → St → List ℤ → ℕ
+inAnswer zero s ws = inPerformAny (withLog s []) (commandOf ws)
+inAnswer (suc r) s ws = 0

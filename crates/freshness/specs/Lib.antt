@@ -1,3 +1,5 @@
 pub mod Afresh
 pub mod Evaluations
+pub mod Nodes
 pub mod History
+pub mod Right

@@ -31,7 +31,7 @@ use Rattle.meaning.proofs.Kept.{Keeps}
 use Rattle.meaning.proofs.Accepted.{logless, taken}
 
 -- x is gone
-dispose-gone : (s : St) (x : ℕ) → dispose s x .gone x ≡ true
+pub dispose-gone : (s : St) (x : ℕ) → dispose s x .gone x ≡ true
 dispose-gone s x = dispose-marks (unlinkN (budget s)) s x (λ t l e. unlink-ring Still drops-still (budget s) t l .gone x e)
 
 -- an owner that is gone has nothing live below it

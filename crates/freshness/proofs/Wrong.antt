@@ -1,0 +1,107 @@
+-- Engines that are not document 01's, and fail demand 3: each on a history of at most four calls. Assumes nothing.
+use mathlib.Core.Path.{_≡_, refl, sym, ap}
+use mathlib.Core.Logic.{inl}
+use mathlib.Core.Bool.{true, false}
+use mathlib.Core.List.{List, [], _∷_}
+use Prim.Native.Nat.{ℕ}
+use native.Mathlib.Omega.{arith}
+use lib.Dec.{eqb}
+use lib.IntN.{pos, negsuc}
+use lib.ListN.{length}
+use Rattle.primitive.specs.declared.values.Value.{Value}
+use Rattle.primitive.proofs.ValueLaws.{yes-same}
+use Rattle.primitive.specs.Values.{value, sum, difference, minimum, maximum, less, clamp, same, sameNumber, isZero}
+use Rattle.formula.specs.Cells.{cellOf, codes, readOf, bareOf}
+use Rattle.formula.specs.Trees.{apply, written, size, names}
+use Rattle.meaning.specs.State.{up, below, empty}
+use Rattle.meaning.specs.Links.{remove, each, renew, spent, insert, link, cut, lastLink, disposeW, unwatchedW, unlinkN}
+use Rattle.meaning.specs.Marks.{chain, calm, effects, notify, mark, prop, soil, wakes}
+use Rattle.meaning.specs.Reads.{evalBy, settleW, firstW, updComputed, updSignal, updW, sameSlots, steady, checkOn, checkW, pendingW, freshW, fresh}
+use Rattle.meaning.specs.Engine.{logged, rerun, run, flushOn, store, tallest, newSignal, newComputed, newScope, newEffect}
+use Rattle.meaning.specs.Words.{makeSignal, makeEffect, setTo, readOf as readIt, word, noWord, wholeCells, codes as commands, commandOf, after as afterCells, grown, parse, treeOf}
+use Rattle.meaning.specs.Reserve.{total, reserve}
+use Rattle.meaning.specs.Refusals.{liveEffects, asksOf, isA, unknown, wrongNode, goneNode, allReadable, badFormula, tooHigh, noRoom, wrongDepth, fewRows, table as refusals, first, refusal}
+use Rattle.meaning.specs.Commands.{Answer, perform, performAny, answer, command}
+use Rattle.freshness.specs.Afresh.{afreshN, afreshOf, recorded}
+use Rattle.meaning.specs.Evaluations.{inFormula, inUpdate, inCheckOn, inCheck, inPending, countFirst, countFlushOn, countFresh, countFreshW, countNewEffect, countPerform, countRerun, countRun, countStore}
+use Rattle.freshness.specs.Evaluations.{inPerformAny, inAnswer}
+use Rattle.meaning.specs.State.{St, Row, nothing}
+use Rattle.meaning.specs.Setters.{withDepth, withLive}
+use Rattle.freshness.specs.Nodes.{ownsN, changed, ran}
+use Rattle.freshness.specs.History.{Call, Engine, meant, written as lastWritten, next, after}
+use Rattle.freshness.specs.Right.{Demand3}
+use Rattle.meaning.proofs.Laws.{false≢true}
+use Rattle.freshness.proofs.Sound.{not-it}
+use Rattle.freshness.proofs.Used.{room}
+
+-- signal 5; an effect that reads it; two writes to it; a read of it
+abbrev signal5 : Call
+signal5 = record { rows = 4; words = pos 1 ∷ pos 5 ∷ [] }
+
+abbrev effect0 : Call
+effect0 = record { rows = 4; words = pos 3 ∷ negsuc 0 ∷ pos 2 ∷ pos 0 ∷ [] }
+
+abbrev set6 : Call
+set6 = record { rows = 4; words = pos 5 ∷ pos 0 ∷ pos 6 ∷ [] }
+
+abbrev set7 : Call
+set7 = record { rows = 4; words = pos 5 ∷ pos 0 ∷ pos 7 ∷ [] }
+
+abbrev read0 : Call
+read0 = record { rows = 4; words = pos 7 ∷ pos 0 ∷ [] }
+
+-- ---- the engines: document 01's, with another answer
+abbrev answers : ℕ → Value → List Row → Answer → Answer
+answers c v rs a = record { st = a .st; code = c; val = v; rows = rs }
+
+-- refuses everything
+abbrev refuses : Engine
+refuses s c = let a = meant s c in answers 2 nothing [] a
+
+-- reads back 0
+abbrev reads-0 : Engine
+reads-0 s c = let a = meant s c in answers (a .code) nothing (a .rows) a
+
+-- never runs a new effect, nor any other
+abbrev mute : Engine
+mute s c = let a = meant s c in answers (a .code) (a .val) [] a
+
+-- has a row where nothing flushes
+abbrev loud : Engine
+loud s c = let a = meant s c in answers (a .code) (a .val) (record { who = 0; worth = nothing; reads = [] } ∷ []) a
+
+-- settles only its first flush
+abbrev settles-once : Engine
+settles-once s c = let a = meant s c in answers (a .code) (a .val) (elim (eqb (s .cycle) 0) [ true ↦ a .rows | false ↦ [] ]) a
+
+-- ---- and with another state
+abbrev leaves : St → Answer → Answer
+leaves t a = record { st = t; code = a .code; val = a .val; rows = a .rows }
+
+abbrev stores-nothing : Engine
+stores-nothing s c = leaves s (meant s c)
+
+-- its depth is always 7
+abbrev deep : Engine
+deep s c = let a = meant s c in leaves (withDepth (a .st) 7) a
+
+-- loses its links
+abbrev forgets : Engine
+forgets s c = let a = meant s c in leaves (withLive (a .st) (λ l. false)) a
+
+longer : {C : Type 0} (r : Row) → [] ≡ r ∷ [] → C
+longer r e = let z = ap (λ (x : List Row). length x) e in absurd (omega arith)
+
+pub none-is-right : (Demand3 refuses → ⊥) × (Demand3 reads-0 → ⊥) × (Demand3 mute → ⊥) × (Demand3 loud → ⊥) × (Demand3 settles-once → ⊥) × (Demand3 stores-nothing → ⊥) × (Demand3 deep → ⊥) × (Demand3 forgets → ⊥)
+unfolding Demand3 sum difference minimum maximum less clamp same sameNumber isZero cellOf codes readOf bareOf apply written size names up below empty remove each renew spent insert link cut lastLink disposeW unwatchedW unlinkN chain calm effects notify mark prop soil wakes evalBy settleW firstW updComputed updSignal updW sameSlots steady checkOn checkW pendingW freshW fresh logged rerun run flushOn store tallest newSignal newComputed newScope newEffect noWord word wholeCells commands commandOf afterCells grown parse treeOf total reserve liveEffects asksOf isA unknown wrongNode goneNode allReadable badFormula tooHigh noRoom wrongDepth fewRows refusals first refusal perform performAny answer command recorded inFormula countFirst inUpdate inCheckOn inCheck inPending countFreshW countFresh countRerun countRun countFlushOn countStore countNewEffect countPerform inPerformAny inAnswer lastWritten next after afreshN afreshOf ownsN changed ran
+none-is-right = (
+  λ d. let e : _≡_ {A = ℕ} 2 0 = d room refl [] signal5 (omega arith) .0 .code in absurd (omega arith),
+  λ d. let e : nothing ≡ value (pos 5) = d room refl (signal5 ∷ []) read0 (omega arith) .0 .accepted (readIt (pos 0)) refl refl .value in false≢true (sym (ap isZero e)),
+  λ d. let e = d room refl (signal5 ∷ []) effect0 (omega arith) .0 .accepted (makeEffect (negsuc 0) (pos 2 ∷ pos 0 ∷ [])) refl refl .made (negsuc 0) (pos 2 ∷ pos 0 ∷ []) refl in longer (e .0) (e .2),
+  λ d. let e = d room refl [] signal5 (omega arith) .0 .accepted (makeSignal (pos 5)) refl refl .none-else (λ o cs q. not-it (makeSignal (pos 5)) (makeEffect o cs) refl q) refl in longer _ (sym e),
+  λ d. d room refl (signal5 ∷ effect0 ∷ set6 ∷ []) set7 (omega arith) .0 .accepted (setTo (pos 0) (pos 7)) refl refl .exactly refl .1 1 (omega arith, refl, refl)
+      (record { node = 0; was = value (pos 6); read = inl (refl, refl); new = λ e. false≢true (yes-same (value (pos 7)) (value (pos 6)) e) }),
+  λ d. let e : _≡_ {A = ℕ} 3 0 = d room refl (signal5 ∷ []) read0 (omega arith) .0 .code in absurd (omega arith),
+  λ d. let e : _≡_ {A = ℕ} 7 0 = d room refl [] signal5 (omega arith) .1 .agrees .depth in absurd (omega arith),
+  λ d. let e = d room refl (signal5 ∷ []) effect0 (omega arith) .1 .records 1 (omega arith, refl, refl) .linked 0 (value (pos 5)) (inl (refl, refl)) in false≢true (e .1),
+)
