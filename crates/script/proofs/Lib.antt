@@ -1,3 +1,4 @@
 pub mod TurnLaws
 pub mod LogLength
 pub mod Whole
+pub mod PackedLaws

@@ -1,4 +1,5 @@
 // One turn of a script: the first pair of a window on the input, done on lent tables and answered.
+pub mod packed;
 pub mod turns;
 
 use crate::turns::Turn;

@@ -6,7 +6,7 @@ ghost use Rattle.text.specs.Answers.{line, row, rows, answer, unreadable
 ghost use lib.IntN.{pos};
 
 // One byte at out[at]; answers the next place.
-fn push(out: &mut [u8], at: usize, b: u8) -> usize
+pub fn push(out: &mut [u8], at: usize, b: u8) -> usize
     ensures { λ r. ⌜ buffer (now (out .exit)) r ≡ pushed (buffer (now (out .entry)) at) b ⌝ }
 {
     if at < out.len() {
@@ -16,7 +16,7 @@ fn push(out: &mut [u8], at: usize, b: u8) -> usize
     out.len()
 }
 
-fn put_all(out: &mut [u8], at: usize, s: &[u8]) -> usize
+pub fn put_all(out: &mut [u8], at: usize, s: &[u8]) -> usize
     ensures { λ r. ⌜ buffer (now (out .exit)) r ≡ put (buffer (now (out .entry)) at) (now (s .entry)) ⌝ }
 {
     let mut i = 0;
@@ -49,13 +49,13 @@ fn put_digits(out: &mut [u8], at: usize, n: u64, most: u64) -> usize
     push(out, to, glyph_of(n))
 }
 
-fn put_natural(out: &mut [u8], at: usize, n: u64) -> usize
+pub fn put_natural(out: &mut [u8], at: usize, n: u64) -> usize
     ensures { λ r. ⌜ buffer (now (out .exit)) r ≡ put (buffer (now (out .entry)) at) (decimal (pos n)) ⌝ }
 {
     put_digits(out, at, n, 20)
 }
 
-fn put_integer(out: &mut [u8], at: usize, v: i64) -> usize
+pub fn put_integer(out: &mut [u8], at: usize, v: i64) -> usize
     ensures { λ r. ⌜ buffer (now (out .exit)) r ≡ put (buffer (now (out .entry)) at) (decimal v) ⌝ }
 {
     if v < 0 {
@@ -66,7 +66,7 @@ fn put_integer(out: &mut [u8], at: usize, v: i64) -> usize
     put_natural(out, at, v as u64)
 }
 
-fn put_line(out: &mut [u8], at: usize, key: &[u8], v: i64) -> usize
+pub fn put_line(out: &mut [u8], at: usize, key: &[u8], v: i64) -> usize
     ensures { λ r. ⌜ buffer (now (out .exit)) r ≡ put (buffer (now (out .entry)) at) (line (now (key .entry)) v) ⌝ }
 {
     let to = put_all(out, at, key);
@@ -74,7 +74,7 @@ fn put_line(out: &mut [u8], at: usize, key: &[u8], v: i64) -> usize
     push(out, end, 10)
 }
 
-fn put_count(out: &mut [u8], at: usize, key: &[u8], n: u64) -> usize
+pub fn put_count(out: &mut [u8], at: usize, key: &[u8], n: u64) -> usize
     ensures { λ r. ⌜ buffer (now (out .exit)) r ≡ put (buffer (now (out .entry)) at) (line (now (key .entry)) (pos n)) ⌝ }
 {
     let to = put_all(out, at, key);

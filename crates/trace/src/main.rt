@@ -1,5 +1,6 @@
-// Answers scripts as `simmer` does and prints after each command the tables, as oracle/README.md sets it out. Arguments: --nodes N, --links N,
-// --cells N, --rows N choose capacities, --many takes many scripts, --plain leaves the tables out; --dump, the default, shows them.
+// Answers scripts as `simmer` does and prints after each command the tables, as oracle/README.md sets it out; a line `%` begins another script.
+// Arguments: --nodes N, --links N, --cells N, --rows N choose capacities, --plain leaves the tables out; --dump, the default, shows them.
+// --many, which the oracle needs for more than one script, changes nothing here.
 mod options;
 mod view;
 
@@ -9,11 +10,9 @@ use libc::STDOUT_FILENO;
 use operations::emptying::empty;
 use options::Options;
 use options::from_arguments;
-use packs::Act;
 use packs::Place;
-use packs::decide;
-use script::turn;
-use script::turns::Turn;
+use script::packed::Step;
+use script::packed::play;
 use stream::Window;
 use stream::after;
 use stream::fill;
@@ -27,15 +26,6 @@ struct State {
     over: bool,
     place: Place,
     on: bool,
-}
-
-// What a turn came to, its answer written.
-enum Done {
-    More,
-    // So many bytes of the input are done.
-    Used(usize),
-    Ended,
-    Failed,
 }
 
 fn read_more(buf: &mut [u8], state: State) -> State {
@@ -68,51 +58,34 @@ fn moved(state: State, used: usize, place: Place, on: bool) -> State {
     }
 }
 
-// One script: a turn is on all that is there.
-fn alone(w: &[u8], over: bool, place: Place) -> Act {
-    match place {
-        Place::Open => Act::Turn(w.len(), over),
-        Place::InLine => Act::Stop,
-        Place::AtLine => Act::Stop,
-    }
-}
-
-fn choose(buf: &[u8], state: State, many: bool) -> Act {
-    let at = state.at;
-    let end = state.end;
-    let place = state.place;
-    if buf.len() < end {
-        return Act::Stop;
-    }
-    if end < at {
-        return Act::Stop;
-    }
-    if many {
-        return decide(&buf[at..end], state.over, place);
-    }
-    alone(&buf[at..end], state.over, place)
-}
-
-// Writes the answer of a turn.
-fn written(out: &[u8], answered: Turn) -> Done {
-    match answered {
-        Turn::More => Done::More,
-        Turn::Answered(used, bytes) => {
+// Writes what a step has to say; where that fails the run stops.
+fn written(out: &[u8], what: Step) -> Step {
+    match what {
+        Step::Answered(used, bytes) => {
             if send(STDOUT_FILENO, out, bytes) {
-                return Done::Used(used);
+                return Step::Answered(used, bytes);
             }
-            Done::Failed
+            Step::Stop
         }
-        Turn::Ended(bytes) => {
+        Step::Ended(bytes) => {
             if send(STDOUT_FILENO, out, bytes) {
-                return Done::Ended;
+                return Step::Ended(bytes);
             }
-            Done::Failed
+            Step::Stop
         }
+        Step::Next(used) => {
+            if send(STDOUT_FILENO, b"%\n", 2) {
+                return Step::Next(used);
+            }
+            Step::Stop
+        }
+        Step::Read => Step::Read,
+        Step::Within(used) => Step::Within(used),
+        Step::Past(used) => Step::Past(used),
+        Step::Stop => Step::Stop,
     }
 }
 
-// A turn on some of the input.
 fn answer(
     nodes: &mut [u64],
     links: &mut [u64],
@@ -122,10 +95,22 @@ fn answer(
     words: &mut [i64],
     out: &mut [u8],
     window: &[u8],
-    last: bool,
-) -> Done {
-    let answered = turn(nodes, links, values, cells, log, words, out, window, last);
-    written(out, answered)
+    over: bool,
+    place: Place,
+) -> Step {
+    let what = play(
+        nodes,
+        links,
+        values,
+        cells,
+        log,
+        words,
+        out,
+        window,
+        over,
+        place,
+    );
+    written(out, what)
 }
 
 fn answered(
@@ -135,8 +120,9 @@ fn answered(
     cells: &mut [i64],
     log: &mut [i64],
     window: &[u8],
-    last: bool,
-) -> Done {
+    over: bool,
+    place: Place,
+) -> Step {
     let mut words = [0i64; 2048];
     let mut out = [0u8; 32768];
     answer(
@@ -148,7 +134,8 @@ fn answered(
         &mut words,
         &mut out,
         window,
-        last,
+        over,
+        place,
     )
 }
 
@@ -159,80 +146,28 @@ fn shown(nodes: &[u64], links: &[u64], values: &[i64], tables: bool) -> bool {
     dump(nodes, links, values)
 }
 
-// The tables after a command, or one more read.
+// The tables after a command, or one more read; and where the run stands then.
 fn told(
     nodes: &[u64],
     links: &[u64],
     values: &[i64],
     buf: &mut [u8],
     tables: bool,
-    done: Done,
+    what: Step,
     state: State,
 ) -> State {
-    match done {
-        Done::More => read_more(buf, state),
-        Done::Used(used) => {
+    match what {
+        Step::Read => read_more(buf, state),
+        Step::Answered(used, _) => {
             let on = shown(nodes, links, values, tables);
             moved(state, used, Place::Open, on)
         }
-        Done::Ended => moved(state, 0, Place::InLine, true),
-        Done::Failed => moved(state, 0, Place::InLine, false),
+        Step::Ended(_) => moved(state, 0, Place::InLine, true),
+        Step::Next(used) => moved(state, used, Place::Open, true),
+        Step::Within(used) => moved(state, used, Place::InLine, true),
+        Step::Past(used) => moved(state, used, Place::AtLine, true),
+        Step::Stop => moved(state, 0, Place::AtLine, false),
     }
-}
-
-// A turn on the first n unread bytes.
-fn take_turn(
-    nodes: &mut [u64],
-    links: &mut [u64],
-    values: &mut [i64],
-    cells: &mut [i64],
-    log: &mut [i64],
-    buf: &[u8],
-    from: usize,
-    to: usize,
-    last: bool,
-) -> Done {
-    if buf.len() < to {
-        return Done::Failed;
-    }
-    if to < from {
-        return Done::Failed;
-    }
-    answered(nodes, links, values, cells, log, &buf[from..to], last)
-}
-
-fn next_script(state: State, used: usize) -> State {
-    let on = send(STDOUT_FILENO, b"%\n", 2);
-    moved(state, used, Place::Open, on)
-}
-
-// What asks nothing of the tables.
-fn pass(buf: &mut [u8], what: Act, state: State) -> State {
-    match what {
-        Act::Read => read_more(buf, state),
-        Act::Within(used) => moved(state, used, Place::InLine, true),
-        Act::Past(used) => moved(state, used, Place::AtLine, true),
-        Act::Stop => moved(state, 0, Place::AtLine, false),
-        Act::Script(_) => moved(state, 0, Place::AtLine, false),
-        Act::Turn(_, _) => moved(state, 0, Place::AtLine, false),
-    }
-}
-
-// What is no turn: the next script, a line after a script, or one more read.
-fn other(
-    nodes: &mut [u64],
-    links: &mut [u64],
-    values: &mut [i64],
-    cells: &mut [i64],
-    buf: &mut [u8],
-    what: Act,
-    state: State,
-) -> State {
-    if let Act::Script(used) = what {
-        empty(nodes, links, values, cells);
-        return next_script(state, used);
-    }
-    pass(buf, what, state)
 }
 
 // One pair, one line after a script, or one more read.
@@ -243,18 +178,29 @@ fn step(
     cells: &mut [i64],
     log: &mut [i64],
     buf: &mut [u8],
-    many: bool,
     tables: bool,
     state: State,
 ) -> State {
-    let what = choose(buf, state, many);
-    if let Act::Turn(n, last) = what {
-        let from = state.at;
-        let to = after(from, n, state.end);
-        let done = take_turn(nodes, links, values, cells, log, buf, from, to, last);
-        return told(nodes, links, values, buf, tables, done, state);
+    let at = state.at;
+    let end = state.end;
+    let place = state.place;
+    if buf.len() < end {
+        return moved(state, 0, Place::AtLine, false);
     }
-    other(nodes, links, values, cells, buf, what, state)
+    if end < at {
+        return moved(state, 0, Place::AtLine, false);
+    }
+    let what = answered(
+        nodes,
+        links,
+        values,
+        cells,
+        log,
+        &buf[at..end],
+        state.over,
+        place,
+    );
+    told(nodes, links, values, buf, tables, what, state)
 }
 
 // Nothing says that the input ends, so the turns are counted down.
@@ -264,7 +210,6 @@ fn session(
     values: &mut [i64],
     cells: &mut [i64],
     log: &mut [i64],
-    many: bool,
     tables: bool,
 ) {
     let mut buf = [0u8; 16384];
@@ -277,17 +222,7 @@ fn session(
     };
     let mut turns = u64::MAX;
     while turns > 0 {
-        state = step(
-            nodes,
-            links,
-            values,
-            cells,
-            log,
-            &mut buf,
-            many,
-            tables,
-            state,
-        );
+        state = step(nodes, links, values, cells, log, &mut buf, tables, state);
         if !state.on {
             return;
         }
@@ -301,11 +236,10 @@ fn begun(
     values: &mut [i64],
     cells: &mut [i64],
     log: &mut [i64],
-    many: bool,
     tables: bool,
 ) {
     empty(nodes, links, values, cells);
-    session(nodes, links, values, cells, log, many, tables);
+    session(nodes, links, values, cells, log, tables);
 }
 
 // The tables cut to the chosen lengths.
@@ -343,7 +277,6 @@ fn sized(
         &mut values[0..v],
         &mut cells[0..c],
         &mut log[0..r],
-        chosen.many,
         chosen.tables,
     );
 }

@@ -2,14 +2,13 @@
 use stream::number_argument;
 ghost use Prim.Native.Nat.{_<_};
 
-// Lengths in words, whether there are many scripts, whether tables are shown, and whether the arguments could be read.
+// Lengths in words, whether tables are shown, and whether the arguments could be read.
 pub(crate) struct Options {
     pub node_words: usize,
     pub link_words: usize,
     pub value_words: usize,
     pub cell_words: usize,
     pub log_words: usize,
-    pub many: bool,
     pub tables: bool,
     pub good: bool,
 }
@@ -110,7 +109,6 @@ fn with_number(o: Options, what: u64, k: u64) -> Options {
 fn marked(o: Options, what: u64) -> Options {
     let mut p = o;
     if what == 5 {
-        p.many = true;
         return p;
     }
     if what == 6 {
@@ -163,7 +161,6 @@ pub(crate) fn from_arguments() -> Options {
         value_words: 1024,
         cell_words: 4096,
         log_words: 512,
-        many: false,
         tables: true,
         good: true,
     };

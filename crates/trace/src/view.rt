@@ -21,40 +21,10 @@ use primitive::words;
 use stream::Sink;
 use stream::send;
 use stream::spill;
-
-// One byte at out[at]; answers the next place.
-fn push(out: &mut [u8], at: usize, b: u8) -> usize {
-    if at < out.len() {
-        out[at] = b;
-        return at + 1;
-    }
-    out.len()
-}
-
-fn put_all(out: &mut [u8], at: usize, s: &[u8]) -> usize {
-    let mut i = 0;
-    let mut to = at;
-    while i < s.len() {
-        to = push(out, to, s[i]);
-        i += 1;
-    }
-    to
-}
-
-fn put_natural(out: &mut [u8], at: usize, n: u64) -> usize {
-    let mut text = [0u8; 20];
-    let k = io::decimal(n, &mut text);
-    put_all(out, at, &text[..k])
-}
-
-fn put_integer(out: &mut [u8], at: usize, v: i64) -> usize {
-    if v < 0 {
-        let to = push(out, at, 45);
-        let n = (-1 - v) as u64;
-        return put_natural(out, to, n + 1);
-    }
-    put_natural(out, at, v as u64)
-}
+use text::answers::push;
+use text::answers::put_all;
+use text::answers::put_integer;
+use text::answers::put_natural;
 
 // A key with its '=', and a number.
 fn keyed(out: &mut [u8], at: usize, key: &[u8], n: u64) -> usize {

@@ -6,10 +6,10 @@ use Rattle.trace.proofs.session.Statement.{statement}
 use Rattle.trace.proofs.session.Tie as tie
 
 abbrev Inv-loop : tie.InvT-loop
-Inv-loop nodes₀ links₀ values₀ cells₀ log₀ many tables buf₀ state₀ turns₀ nodes links values cells log buf state turns = (length nodes ≡ length nodes₀) × (length links ≡ length links₀) × (length values ≡ length values₀) × (length cells ≡ length cells₀) × (length log ≡ length log₀) × (length buf ≡ 16384)
+Inv-loop nodes₀ links₀ values₀ cells₀ log₀ tables buf₀ state₀ turns₀ nodes links values cells log buf state turns = (length nodes ≡ length nodes₀) × (length links ≡ length links₀) × (length values ≡ length values₀) × (length cells ≡ length cells₀) × (length log ≡ length log₀) × (length buf ≡ 16384)
 
 abbrev μ-loop : tie.MeasureT-loop
-μ-loop nodes₀ links₀ values₀ cells₀ log₀ many tables buf₀ state₀ turns₀ nodes links values cells log buf state turns = turns
+μ-loop nodes₀ links₀ values₀ cells₀ log₀ tables buf₀ state₀ turns₀ nodes links values cells log buf state turns = turns
 
 loop-holds : tie.Need-loop-holds Inv-loop μ-loop
 loop-holds c = search needs
