@@ -12,7 +12,7 @@ use Rattle.operations.specs.Log.{numberWord}
 use Rattle.engine.specs.Command.{Answered, refusalIn, answer, commandIn}
 use Rattle.host.specs.Calls.{replyWords, noReply, replied, callIn}
 use Rattle.host.proofs.Replies.{whole-reply, not-called, is-called}
-use Rattle.host.proofs.Rows.{runs-fit}
+use Rattle.engine.proofs.LentLog.{runs-fit}
 
 -- the first row that holds, counted from n + 1
 first-below : (n : ℕ) (bs : List Bool) → first (suc n) bs ≤ n + length bs

@@ -1,4 +1,3 @@
 pub mod Codes
 pub mod Fit
 pub mod Replies
-pub mod Rows

@@ -1,4 +1,3 @@
 pub mod TurnLaws
-pub mod LogLength
 pub mod Whole
 pub mod PackedLaws

@@ -20,8 +20,8 @@ use Rattle.text.proofs.OutputLaws.{pair-behind, output-none, output-pair, outpu
 use Rattle.text.proofs.Room.{held-all}
 use Rattle.script.specs.declared.turns.Turn.the-variants.{More, Answered, Ended}
 use Rattle.engine.specs.Command.{commandIn}
+use Rattle.engine.proofs.LentLog.{log-long}
 use Rattle.script.specs.Turns.{Tables, stepped, waiting, turnOn, turnIn}
-use Rattle.script.proofs.LogLength.{log-long}
 
 -- the bytes of an answer that fits are the front of out
 front : (out b : List ℕ) → length b ≤ length out → take (put (buffer out 0) b .next) (put (buffer out 0) b .held) ≡ b

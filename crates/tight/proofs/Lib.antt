@@ -14,3 +14,4 @@ pub mod OfText
 pub mod OfScript
 pub mod OfPacks
 pub mod Spelled
+pub mod OfHost

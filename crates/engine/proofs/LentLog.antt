@@ -1,4 +1,4 @@
--- The runs of a command fit the lent log, which keeps its length; so a host that reads as many rows as the reply says stays inside. Assumes nothing.
+-- The runs of a command fit the lent log, which keeps its length; so whoever reads a row for each run stays inside. Assumes nothing.
 use mathlib.Core.Path.{_≡_, refl}
 use mathlib.Core.Bool.{Bool, true, false}
 use mathlib.Core.List.{List, _++_}
