@@ -1,21 +1,23 @@
--- DEMAND 1, of the words: "Any command on any lent tables gets an answer. Bad input is refused by one of nine numbers and changes nothing." Assumes nothing.
+-- DEMAND 1, of the words: "Any command on any lent tables gets an answer. Bad input is refused by one of nine numbers and changes nothing. Link room is reserved when a node is made, so no accepted command runs out of it." Assumes nothing.
 -- N and L are the lent nodes and links, W and C the values and cells, G the log, ws the words of the command; all of them may be any words.
--- `commandIn` is the answer of `command` and every word after it. That no accepted command runs out of link room is shown of the lists alone (`meaning`, Accepted).
+-- `commandIn` is the answer of `command` and every word after it.
 use mathlib.Core.Path.{_≡_, refl, sym, ap, _∙_}
 use mathlib.Core.Logic.{_↔_}
 use mathlib.Core.Bool.{Bool, true, false, not}
 use mathlib.Core.List.{List, [], _∷_}
 use Prim.Native.Nat.{ℕ, zero, suc, _+_, _≤_, _/_}
 use native.Mathlib.Omega.{arith}
-use borrow.Author.Tests.{not-true}
+use borrow.Author.Tests.{not-true, not-false}
 use lib.IntN.{ℤ}
 use lib.ListN.{length}
 use Rattle.counts.specs.Counts.{carryIn}
 use Rattle.meaning.specs.State.{St, empty}
 use Rattle.meaning.specs.Words.{commandOf}
 use Rattle.meaning.specs.Refusals.{sightOf, table, first, refusal}
+use Rattle.meaning.specs.Commands.{command}
 use Rattle.meaning.specs.WellFormed.{WellFormed}
 use Rattle.meaning.proofs.Laws.{clash}
+use Rattle.meaning.proofs.Promised.{nothing-stuck}
 use Rattle.meaning.proofs.Refused.{FirstHolds, NoneHolds, first-exact, first-zero}
 use Rattle.refusals.specs.Sight.{sightIn, roomIn}
 use Rattle.operations.specs.Log.{rowWords}
@@ -24,8 +26,13 @@ use Rattle.operations.proofs.EmptyLaws.{empty-done, empty-not}
 use Rattle.engine.specs.Tables.{wellFormedIn}
 use Rattle.engine.specs.Command.{Answered, refused, refusalIn, answer, commandIn}
 use Rattle.structure.specs.Rep.{Rep}
-use Rattle.structure.proofs.Exact.{exactly, refusal-same}
+use Rattle.structure.specs.Reading.{stateIn}
+use Rattle.structure.specs.SameAnswer.{SameAnswer}
+use Rattle.structure.specs.Histories.{cleared, Lent, tablesAfter}
+use Rattle.structure.proofs.Exact.{exactly, refusal-same, accepted-represents, accepted-well-formed}
 use Rattle.structure.proofs.EmptyTables.{emptied-represents, emptied-accepted}
+use Rattle.structure.proofs.Commands.{command-same}
+use Rattle.structure.proofs.Histories.{emptied-stays}
 
 few : (n : ℕ) (bs : List Bool) → first (suc n) bs ≤ n + length bs
 unfolding first
@@ -87,6 +94,16 @@ module _ (N L : List ℕ) (W C G ws : List ℤ) where
   unfolding refusalIn refusal
   same-refusal s r w = code-first ∙ refusal-same N L W C s r w G ws
 
+  -- no accepted command runs out of link room: it does what it does over lists to the state that the tables represent, and there nothing is stuck.
+  -- Over lists an operation that finds no slot free, or its reserve spent, is stuck, and stays so (`meaning`: `no-slot`, `no-reserve`, `command-sticks`)
+  pub room-suffices : answered .code ≡ 0 → let a = command true (stateIn N L W C) (length G / rowWords) ws in SameAnswer G answered a × (a .st .stuck ≡ false)
+  unfolding table
+  room-suffices e =
+      let ok = not-false (wellFormedIn N L W C) (accepted-exactly .0 e 0) in
+      let w = accepted-well-formed N L W C ok in
+      let s = stateIn N L W C in
+      (command-same N L W C G ws s (accepted-represents N L W C ok) w refl, nothing-stuck s (length G / rowWords) ws w refl)
+
 -- emptying lent tables: lengths that carry no capacities are answered 1, and nothing is touched; else 0, and the tables represent the empty state and are well formed
 module _ (n l : List ℕ) (v c : List ℤ) where
   pub emptying-refused : carryIn n l v c ≡ false → emptying n l v c ≡ emptied 1 n l v c
@@ -95,3 +112,7 @@ module _ (n l : List ℕ) (v c : List ℤ) where
   pub emptied-well-formed : carryIn n l v c ≡ true → let e = emptying n l v c in
       (e .code ≡ 0) × Rep (e .nodes) (e .links) (e .values) (e .cells) (empty (roomIn n l c)) × (wellFormedIn (e .nodes) (e .links) (e .values) (e .cells) ≡ true)
   emptied-well-formed h = (sym (ap (λ e. e .code) (empty-done n l v c h)), emptied-represents n l v c h, emptied-accepted n l v c h)
+
+  -- tables that `empty` made stay well formed whatever commands come, each with its own lent log
+  pub stay-well-formed : carryIn n l v c ≡ true → (cs : List Lent) → let t = tablesAfter (cleared (emptying n l v c)) cs in wellFormedIn (t .nodes) (t .links) (t .values) (t .cells) ≡ true
+  stay-well-formed h cs = emptied-stays n l v c h cs

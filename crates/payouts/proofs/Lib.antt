@@ -1,0 +1,2 @@
+pub mod OfCommand
+pub mod OneReply

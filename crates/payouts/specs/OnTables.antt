@@ -1,0 +1,54 @@
+-- Demand 3 of an engine over lent tables: what is asked of each call of a history, in the words of its answer, its log and the tables after it.
+-- The engine is an argument, so that another can be held to the same; `command` is `answeredOn`, which its contract cites.
+use mathlib.Core.Path.{_≡_}
+use mathlib.Core.Bool.{true}
+use mathlib.Core.List.{List, [], _∷_}
+use Prim.Native.Nat.{ℕ, _<_, _/_, _^_}
+use lib.IntN.{ℤ}
+use lib.ListN.{length}
+use Rattle.counts.specs.Counts.{carryIn}
+use Rattle.refusals.specs.Sight.{roomIn}
+use Rattle.operations.specs.Log.{rowWords}
+use Rattle.operations.specs.Emptying.{emptying}
+use Rattle.engine.specs.Command.{Answered}
+use Rattle.meaning.specs.State.{St}
+use Rattle.freshness.specs.History.{Call, Reply, Past, told, begun}
+use Rattle.freshness.specs.Right.{Right, Held}
+use Rattle.structure.specs.Rep.{Rep}
+use Rattle.structure.specs.Logged.{Logged}
+use Rattle.structure.specs.Histories.{Tables, cleared, left, Lent}
+
+-- what a call answers on lent tables, with every word after it
+abbrev pub TableEngine : Type 0
+TableEngine = Tables → Lent → Answered
+
+-- a call: its words, and as many rows as its lent log has
+abbrev pub call : Lent → Call
+call c = record { rows = length (c .0) / rowWords; words = c .1 }
+
+-- the words of an answer show a reply: its code, its value, and its rows in the log l, two words each, effect and value. What a run read is in no word; `Right` says what it is
+pub record Shows (l : List ℤ) (a : Answered) (r : Reply) : Type 0 where
+  pub code : a .code ≡ r .code
+  pub value : a .value ≡ r .val .word
+  pub runs : Logged l (r .rows) (a .log) (a .runs)
+
+-- the tables represent a state that holds what was told
+pub record HeldIn (t : Tables) (p : Past) : Type 0 where
+  pub state : St
+  pub represents : Rep (t .nodes) (t .links) (t .values) (t .cells) state
+  pub held : Held state p
+
+-- the answer a to the call c shows the reply r, which is right, and leaves tables that hold what was told; p: before it, q: after it
+pub record RightOn (p : Past) (c : Lent) (a : Answered) (r : Reply) (q : Past) : Type 0 where
+  pub shows : Shows (c .0) a r
+  pub right : q .many < 2 ^ 64 → Right p (call c) r q
+  pub held : q .many < 2 ^ 64 → HeldIn (left a) q
+
+-- each call of a history, on the tables that the one before it left
+unfoldable pub AllRight : TableEngine → Past → Tables → List Lent → Type 0
+AllRight E p t [] = Unit {0}
+AllRight E p t (c ∷ cs) = (r : Reply) × RightOn p c (E t c) r (told p (call c) r) × AllRight E (told p (call c) r) (left (E t c)) cs
+
+-- tables of any words, of lengths that carry capacities, once they are emptied; any calls, each with a lent log of its own
+unfoldable pub Demand3On : TableEngine → Type 0
+Demand3On E = (N L : List ℕ) (W C : List ℤ) → carryIn N L W C ≡ true → (h : List Lent) → AllRight E (begun (roomIn N L C)) (cleared (emptying N L W C)) h
