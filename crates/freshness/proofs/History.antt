@@ -75,11 +75,17 @@ recorded-by s e xs r = record {
   read = λ l lv q rd. first-among (s .dep l) xs (r .only (s .dep l) (record { slot = l; is-live = lv; to = refl; from = q }) rd);
 }
 
-many-is : (p : Past) (s : St) (m n : ℕ) (rs : List Row) (o : Option Command) → next p s m n rs o .many ≡ p .many + m
+pub many-is : (p : Past) (s : St) (m n : ℕ) (rs : List Row) (o : Option Command) → next p s m n rs o .many ≡ p .many + m
 unfolding next
 many-is p s m (suc n) rs o = refl
 many-is p s m zero rs none = refl
 many-is p s m zero rs (some k) = refl
+
+pub ours-is : (p : Past) (s : St) (m n : ℕ) (rs : List Row) (o : Option Command) → next p s m n rs o .ours ≡ s
+unfolding next
+ours-is p s m (suc n) rs o = refl
+ours-is p s m zero rs none = refl
+ours-is p s m zero rs (some k) = refl
 
 -- ---- one call, where the engine is document 01's
 abbrev as-ours : Course → Course

@@ -1,2 +1,3 @@
 pub mod OfCommand
 pub mod OneReply
+pub mod Tried

@@ -1,0 +1,108 @@
+-- The theorem used on a closed history of words, its premise computed: it is not empty. Assumes nothing.
+use mathlib.Core.Path.{_≡_, refl, ap, _∙_}
+use mathlib.Core.Bool.{true}
+use mathlib.Core.List.{List, [], _∷_}
+use Prim.Native.Nat.{ℕ, _+_, _<_, _^_}
+use native.Mathlib.Omega.{arith}
+use lib.IntN.{ℤ, pos, negsuc}
+use lib.ListN.{replicate}
+use Rattle.primitive.specs.Values.{sum, difference, minimum, maximum, less, clamp, same, sameNumber, isZero}
+use Rattle.formula.specs.Cells.{cellOf, codes, readOf, bareOf}
+use Rattle.formula.specs.Trees.{apply, written, size, names}
+use Rattle.meaning.specs.State.{up, below, empty}
+use Rattle.meaning.specs.Links.{remove, each, renew, spent, insert, link, cut, lastLink, disposeW, unwatchedW, unlinkN}
+use Rattle.meaning.specs.Marks.{chain, calm, effects, notify, mark, prop, soil, wakes}
+use Rattle.meaning.specs.Reads.{evalBy, settleW, firstW, updComputed, updSignal, updW, sameSlots, steady, checkOn, checkW, pendingW, freshW, fresh}
+use Rattle.meaning.specs.Engine.{logged, rerun, run, flushOn, store, tallest, newSignal, newComputed, newScope, newEffect}
+use Rattle.meaning.specs.Words.{word, noWord, wholeCells, codes as commands, commandOf, after as afterCells, grown, parse, treeOf}
+use Rattle.meaning.specs.Reserve.{total, reserve}
+use Rattle.meaning.specs.Refusals.{liveEffects, asksOf, isA, unknown, wrongNode, goneNode, allReadable, badFormula, tooHigh, noRoom, wrongDepth, fewRows, table as refusals, first, refusal}
+use Rattle.meaning.specs.Commands.{perform, performAny, answer, command}
+use Rattle.meaning.specs.Evaluations.{inFormula, inUpdate, inCheckOn, inCheck, inPending, countFirst, countFlushOn, countFresh, countFreshW, countNewEffect, countPerform, countRerun, countRun, countStore}
+use Rattle.meaning.specs.State.{St}
+use Rattle.counts.specs.Counts.{wholeRows, withinMost, withinAll, carryIn}
+use Rattle.refusals.specs.Sight.{roomIn}
+use Rattle.operations.specs.Emptying.{emptying}
+use Rattle.freshness.specs.Evaluations.{inPerformAny, inAnswer}
+use Rattle.freshness.specs.History.{Call, Reply, meant, inCall, Past, told, begun}
+use Rattle.freshness.specs.Right.{Right}
+use Rattle.freshness.proofs.History.{many-is, ours-is}
+use Rattle.structure.specs.Histories.{Tables, cleared, left, Lent, answeredOn, tablesAfter}
+use Rattle.payouts.specs.OnTables.{call, Shows, HeldIn, AllRight, Demand3On}
+use Rattle.payouts.proofs.OfCommand.{demand3-of-command}
+
+-- two nodes, four link slots, two cells: words of any content, and then emptied
+abbrev N : List ℕ
+N = replicate 48 1
+
+abbrev L : List ℕ
+L = replicate 40 1
+
+abbrev W : List ℤ
+W = replicate 8 (pos 1)
+
+abbrev C : List ℤ
+C = replicate 4 (pos 1)
+
+-- signal 5, with no log; an effect that reads it, with room for one run; a write of 7, with an odd word more
+abbrev signal5 : Lent
+signal5 = ([], pos 1 ∷ pos 5 ∷ [])
+
+abbrev effect0 : Lent
+effect0 = (pos 9 ∷ pos 9 ∷ [], pos 3 ∷ negsuc 0 ∷ pos 2 ∷ pos 0 ∷ [])
+
+abbrev set7 : Lent
+set7 = (pos 9 ∷ pos 9 ∷ pos 9 ∷ [], pos 5 ∷ pos 0 ∷ pos 7 ∷ [])
+
+abbrev s₀ : St
+s₀ = begun (roomIn N L C) .ours
+
+abbrev s₁ : St
+s₁ = meant s₀ (call signal5) .st
+
+abbrev s₂ : St
+s₂ = meant s₁ (call effect0) .st
+
+-- two evaluations: the effect, twice
+two : inCall s₀ (call signal5) + inCall s₁ (call effect0) + inCall s₂ (call set7) ≡ 2
+unfolding sum difference minimum maximum less clamp same sameNumber isZero cellOf codes readOf bareOf apply written size names up below empty remove each renew spent insert link cut lastLink disposeW unwatchedW unlinkN chain calm effects notify mark prop soil wakes evalBy settleW firstW updComputed updSignal updW sameSlots steady checkOn checkW pendingW freshW fresh logged rerun run flushOn store tallest newSignal newComputed newScope newEffect noWord word wholeCells commands commandOf afterCells grown parse treeOf total reserve liveEffects asksOf isA unknown wrongNode goneNode allReadable badFormula tooHigh noRoom wrongDepth fewRows refusals first refusal perform performAny answer command inFormula countFirst inUpdate inCheckOn inCheck inPending countFreshW countFresh countRerun countRun countFlushOn countStore countNewEffect countPerform inPerformAny inAnswer
+two = refl
+
+carries : carryIn N L W C ≡ true
+unfolding carryIn wholeRows withinAll withinMost
+carries = refl
+
+-- ---- what a past has of document 01's engine hangs on no reply
+told-ours : (p : Past) (c : Call) (r : Reply) → told p c r .ours ≡ meant (p .ours) c .st
+told-ours p c r = ours-is p (meant (p .ours) c .st) (inCall (p .ours) c) (r .code) (r .rows) (commandOf (c .words))
+
+told-many : (p : Past) (c : Call) (r : Reply) → told p c r .many ≡ p .many + inCall (p .ours) c
+told-many p c r = many-is p (meant (p .ours) c .st) (inCall (p .ours) c) (r .code) (r .rows) (commandOf (c .words))
+
+-- ---- the write, on the tables that the two makings left: its words show a reply that is right, and no premise is left
+abbrev before : Tables
+before = tablesAfter (cleared (emptying N L W C)) (signal5 ∷ effect0 ∷ [])
+
+pub record Tried (p : Past) (r : Reply) : Type 0 where
+  pub ours : p .ours ≡ s₂
+  pub shows : Shows (set7 .0) (answeredOn before set7) r
+  pub right : Right p (call set7) r (told p (call set7) r)
+  pub held : HeldIn (left (answeredOn before set7)) (told p (call set7) r)
+
+pub used : (p : Past) × (r : Reply) × Tried p r
+unfolding Demand3On AllRight tablesAfter
+used =
+    let x = demand3-of-command N L W C carries (signal5 ∷ effect0 ∷ set7 ∷ []) in
+    let p₀ = begun (roomIn N L C) in
+    let p₁ = told p₀ (call signal5) (x .0) in
+    let p₂ = told p₁ (call effect0) (x .2 .0) in
+    let r = x .2 .2 .0 in
+    let o₁ : p₁ .ours ≡ s₁ = told-ours p₀ (call signal5) (x .0) in
+    let o₂ : p₂ .ours ≡ s₂ = told-ours p₁ (call effect0) (x .2 .0) ∙ ap (λ (s : St). meant s (call effect0) .st) o₁ in
+    let m₁ : p₁ .many ≡ 0 + inCall s₀ (call signal5) = told-many p₀ (call signal5) (x .0) in
+    let m₂ : p₂ .many ≡ p₁ .many + inCall s₁ (call effect0) = told-many p₁ (call effect0) (x .2 .0) ∙ ap (λ (s : St). p₁ .many + inCall s (call effect0)) o₁ in
+    let m₃ : told p₂ (call set7) r .many ≡ p₂ .many + inCall s₂ (call set7) = told-many p₂ (call set7) r ∙ ap (λ (s : St). p₂ .many + inCall s (call set7)) o₂ in
+    let e = two in
+    let few : told p₂ (call set7) r .many < 2 ^ 64 = omega arith in
+    let y = x .2 .2 .1 in
+    (p₂, r, record { ours = o₂; shows = y .shows; right = y .right few; held = y .held few })
