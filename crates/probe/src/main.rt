@@ -199,7 +199,7 @@ fn run(emptying: bool) {
     let mut values = [0i64; 4128];
     let mut cells = [0i64; 16400];
     let mut log = [0i64; 2112];
-    let mut words = [0i64; 2048];
+    let mut words = [0i64; 4096];
     let mut buf = [0u8; 16384];
     let mut input = Input {
         window: Window {

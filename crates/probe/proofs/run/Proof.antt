@@ -6,7 +6,7 @@ use Rattle.probe.proofs.run.Statement.{statement}
 use Rattle.probe.proofs.run.Tie as tie
 
 abbrev Inv-loop : tie.InvT-loop
-Inv-loop emptying nodes₀ links₀ values₀ cells₀ log₀ words₀ buf₀ input₀ turns₀ nodes links values cells log words buf input turns = (length nodes ≡ 16448) × (length links ≡ 65600) × (length values ≡ 4128) × (length cells ≡ 16400) × (length log ≡ 2112) × (length words ≡ 2048) × (length buf ≡ 16384)
+Inv-loop emptying nodes₀ links₀ values₀ cells₀ log₀ words₀ buf₀ input₀ turns₀ nodes links values cells log words buf input turns = (length nodes ≡ 16448) × (length links ≡ 65600) × (length values ≡ 4128) × (length cells ≡ 16400) × (length log ≡ 2112) × (length words ≡ 4096) × (length buf ≡ 16384)
 
 abbrev μ-loop : tie.MeasureT-loop
 μ-loop emptying nodes₀ links₀ values₀ cells₀ log₀ words₀ buf₀ input₀ turns₀ nodes links values cells log words buf input turns = turns
