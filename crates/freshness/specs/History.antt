@@ -42,7 +42,7 @@ inCall s c = inAnswer (refusal true (sightOf s (c .rows)) (c .words)) s (c .word
 
 -- ---- what has happened so far: the calls, and what was answered
 pub record Past : Type 0 where
-  pub ours : St  -- where document 01's engine stands after these calls: only stored values and evaluations are read off it
+  pub ours : St  -- where document 01's engine stands after these calls: only stored values, evaluations and the refusal that is due are read off it
   pub many : ℕ  -- evaluations
   pub nodes : Nodes
   pub depth : ℕ

@@ -1,4 +1,4 @@
--- Two sentences that are not so, each by a small script: why docs/DECISIONS.md 54 and 59 say it otherwise. Assumes nothing.
+-- Two sentences that are not so, each by a small script: why docs/DECISIONS.md 54 and 60 say it otherwise. Assumes nothing.
 use mathlib.Core.Path.{_≡_, refl}
 use mathlib.Core.Bool.{true}
 use mathlib.Core.List.{[], _∷_}
