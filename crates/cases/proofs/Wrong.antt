@@ -110,7 +110,7 @@ module _ (e : Engine) (keeps : Keeps e) where
   -- one command, which runs something the first time and nothing the second
   pub runs-not-invented : InventsRuns e → ⊥
   runs-not-invented (f, h) =
-      let counted : (t : Lent) (k : ℕ × ℤ × ℕ) → three (answered rows t (setW 0 (pos 7))) ≡ k → f (setW 0 (pos 7)) ≡ k .2 =
+      let counted : (t : Lent) (k : ℕ × ℤ × ℕ) → three (answered rows t (setW 0 (pos 7))) ≡ k → f lent (setW 0 (pos 7)) ≡ k .2 =
       λ t k p. sym (h (t .nodes) (t .links) (t .values) (t .cells) lent (setW 0 (pos 7))) ∙ (λ i. answers t (setW 0 (pos 7)) p i .2)
       in
       let z : _≡_ {A = ℕ} 1 0 = sym (counted t4 _ second-flush) ∙ counted t5 _ same-again in
@@ -123,5 +123,5 @@ idle-is-wrong = (
   λ n l v c g k. refl,
   λ n l v c g ws. refl,
   λ n l v c g i j x y h. refl,
-  (λ ws. 0, λ n l v c g ws. refl),
+  (λ g ws. 0, λ n l v c g ws. refl),
 )

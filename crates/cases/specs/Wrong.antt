@@ -32,9 +32,9 @@ SettlesFirstFlush e =
     (n l : List ℕ) (v c g : List ℤ) (i j : ℕ) (x y : ℤ) → let a = e n l v c g (setW i x) in
     (a .runs ≡ 0 → ⊥) → e (a .nodes) (a .links) (a .values) (a .cells) g (setW j y) .runs ≡ 0
 
--- its run count hangs on the words of the command, and not on what ran
+-- its run count hangs on the words of the command and the lent log, and not on what ran
 abbrev pub InventsRuns : Engine → Type 0
-InventsRuns e = (f : List ℤ → ℕ) × ((n l : List ℕ) (v c g ws : List ℤ) → e n l v c g ws .runs ≡ f ws)
+InventsRuns e = (f : List ℤ → List ℤ → ℕ) × ((n l : List ℕ) (v c g ws : List ℤ) → e n l v c g ws .runs ≡ f g ws)
 
 -- one engine that is wrong in all five ways
 abbrev pub idle : Engine
