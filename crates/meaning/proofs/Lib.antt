@@ -38,6 +38,7 @@ pub mod Binding
 pub mod Bound
 pub mod Moments
 pub mod Marked
+pub mod Ordered
 pub mod Disposed
 pub mod Unwatched
 pub mod Throughout

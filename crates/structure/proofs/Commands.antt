@@ -20,7 +20,7 @@ use Rattle.meaning.specs.Refusals.{sightOf, refusal}
 use Rattle.meaning.specs.Commands.{perform, Answer, accepted as acceptedL, answer as answerL, command}
 use Rattle.meaning.specs.WellFormed.{WellFormed}
 use Rattle.meaning.proofs.Performed.{performed as performedL, known}
-use Rattle.meaning.proofs.Rows.{rows-fit}
+use Rattle.meaning.proofs.Outcome.{rows-fit}
 use Rattle.structure.specs.Rep.{Rep}
 use Rattle.structure.specs.SameAnswer.{SameAnswer}
 use Rattle.structure.proofs.Exact.{refusal-same}
