@@ -46,4 +46,5 @@ pub mod Stepped
 pub mod NotSo
 pub mod Cycle
 pub mod Valued
+pub mod Written
 pub mod Promised
