@@ -14,7 +14,7 @@ use borrow.Author.Tests.{leb-false, ltb-false}
 use Rattle.primitive.specs.declared.values.Value.{Value}
 use Rattle.meaning.specs.State.{St, Row, signal, computed, readable, deps, unclean, f1, f2, f17, up}
 use Rattle.meaning.specs.Setters.{withQueue, withDepth, withLog, setFl, setPend}
-use Rattle.meaning.specs.Links.{several, cut, unlink}
+use Rattle.meaning.specs.Links.{several, link, cut, unlink}
 use Rattle.meaning.specs.Marks.{Marks, marksOf, notify, prop, turns, propagate}
 use Rattle.meaning.specs.Words.{Command, makeEffect, readOf, disposeOf, batchEnd, commandOf, nodeOf, ownerOf, formulaOf}
 use Rattle.meaning.specs.Reserve.{total, reserveOf, reserve, liveLinks}
@@ -24,7 +24,7 @@ use Rattle.meaning.specs.Reach.{Reached}
 use Rattle.meaning.specs.Order.{Walked}
 use Rattle.meaning.specs.Owners.{Below}
 use Rattle.meaning.specs.Engine.{store}
-use Rattle.meaning.specs.Moments.{flushing, Steps, Moment, begun, reserveFrom}
+use Rattle.meaning.specs.Moments.{flushing, Steps, here, later, links, Moment, begun, reserveFrom}
 use Rattle.meaning.specs.Evaluations.{reevaluations}
 use Rattle.meaning.specs.Commands.{number, perform, Answer, command, runs}
 use Rattle.meaning.specs.Outcome.{firstRow, flushes, MayRun, made, flushed, MustGo, disposed, owned as had, Writes, madeBy, valueOf}
@@ -47,7 +47,7 @@ use Rattle.meaning.proofs.Marked.{marks-exactly}
 use Rattle.meaning.proofs.Ordered.{in-order}
 use Rattle.meaning.proofs.Disposed.{gone-below, below-stays, disposed as disposal, givenBack, reserve-back}
 use Rattle.meaning.proofs.Unwatched.{becomes-17, stays}
-use Rattle.meaning.proofs.Throughout.{few-live, moment-within}
+use Rattle.meaning.proofs.Throughout.{few-live, unstuck, linked-few, moment-within}
 use Rattle.meaning.proofs.Stepped.{perform-steps, begun-within}
 use Rattle.meaning.proofs.Cycle.{perform-counts}
 use Rattle.meaning.proofs.Valued.{read-valued}
@@ -207,6 +207,16 @@ module _ (s : St) (rows : ℕ) (ws : List ℤ) (w : WellFormed s) (ok : command 
         let b = begun-within s rows w c (performed s rows ws c is ok .1) in
         let n = moment-within _ t x m (command-kept true s rows ws w .stuck ∙ e) (reserveFrom s c) (b .0) in
         (few-live (reserveFrom s c) x n, n .reserved, b .1)
+
+    -- and right after a step that made a link, at most the reserve of that very moment
+    pub room-where-made : s .stuck ≡ false → (x : St) (d u v : ℕ) → Steps (begun (withLog s []) c) x → Steps (link x d u v) t → liveLinks x < liveLinks (link x d u v)
+        → liveLinks (link x d u v) ≤ reserve (link x d u v)
+    room-where-made e x d u v p q more =
+        let b = begun-within s rows w c (performed s rows ws c is ok .1) in
+        let free = command-kept true s rows ws w .stuck ∙ e in
+        let y = link x d u v in
+        let one : Steps x y = later here (links d u v) in
+        linked-few x d u v (reserveFrom s c) (moment-within _ y x (record { reached = p; left = one }) (unstuck y t q free) (reserveFrom s c) (b .0)) (unstuck y t q free) more
 
     -- ---- the cycle: raised once for each evaluation of the command that is not a first one; it wraps
     pub cycle-counts : s .cycle < 2 ^ 64 → t .cycle ≡ (s .cycle + reevaluations (withLog s []) c) % 2 ^ 64
