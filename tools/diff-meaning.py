@@ -6,7 +6,11 @@
 import os, re, subprocess, sys
 oracle, cases, seed = sys.argv[1], sys.argv[2], sys.argv[3]
 CASES = ['13-links', '14-refusal-order', '15-room', '16-log-rows', '17-owner-depth', '18-nesting', '19-reserve-given-back',
-         '20-branches-never-taken', '21-queue-order', '22-switch-before-read', '25-formulas', '26-reads-in-order']
+         '20-branches-never-taken', '21-queue-order', '22-switch-before-read', '25-formulas', '26-reads-in-order',
+         '27-made-in-a-batch', '28-ran-and-gone', '29-owner-first-by-order', '30-read-in-a-batch']
+# where order shows: a walk goes in before it goes on; a climb over two owners, up to a scope, and of three effects
+ORDERED = ['1 0; 2 2 0; 3 -1 2 1; 3 -1 2 0; 5 0 4', '1 0; 1 0; 3 -1 2 0; 3 2 1 7; 3 3 2 1; 9; 5 1 9; 5 0 4; 10',
+           '1 0; 1 0; 3 -1 2 0; 4 2; 3 3 2 1; 9; 5 1 9; 5 0 4; 10', '1 0; 1 0; 1 0; 3 -1 2 0; 3 3 2 1; 3 4 2 2; 9; 5 2 9']
 ROOMS = [(12, 28, 60, 3), (9, 14, 30, 2), (16, 60, 90, 8), (10, 20, 25, 1)]
 MOST_WORDS, EACH = 300, 5          # of a script; scripts of each room
 ask = lambda flags, text: subprocess.run([oracle] + flags, input=text.encode('latin-1'), capture_output=True, check=True).stdout.decode('latin-1')
@@ -50,6 +54,9 @@ for name in CASES:
     room = tuple(int(given.get(f, d)) for f, d in (('--nodes', 256), ('--links', 1024), ('--cells', 2048), ('--rows', 256)))
     text = open(path + '.in').read()
     found.append((room, pairs(text), *answers(ask(flags_of(room) + ['--dump'], text))))
+for script in ORDERED:
+    text = ''.join('cmd=%s\nargs=%s\n' % c.partition(' ')[::2] for c in script.split('; '))
+    found.append((ROOMS[0], pairs(text), *answers(ask(flags_of(ROOMS[0]) + ['--dump'], text))))
 for room in ROOMS:
     text = ask(flags_of(room) + ['--generate', seed, '400', '40'], '')
     some = []

@@ -42,6 +42,11 @@ run-lasts = run-ring Lasts runs-last
 pub run-queues-nothing : (s : St) (e : ℕ) → run s e .queue ≡ s .queue
 run-queues-nothing s e = ap (λ (l : Lasting). l .queue) (run-lasts s e)
 
+pub flush-pend : (q : List ℕ) (s : St) → flushOn s q .pend ≡ s .pend
+unfolding flushOn
+flush-pend [] s = refl
+flush-pend (e ∷ q) s = flush-pend q (run (withQueue s q) e) ∙ ap (λ (l : Lasting). l .pend) (run-lasts (withQueue s q) e)
+
 flushOn-empties : (q : List ℕ) (s : St) → s .queue ≡ q → flushOn s q .queue ≡ []
 unfolding flushOn
 flushOn-empties [] s h = h

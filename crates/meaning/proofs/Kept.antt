@@ -8,7 +8,7 @@ use native.Mathlib.Omega.{arith}
 use lib.IntN.{ℤ, pos}
 use Rattle.primitive.specs.declared.flags.Named.{Named}
 use Rattle.primitive.specs.declared.values.Value.{Value}
-use Rattle.primitive.specs.Values.{same}
+use Rattle.primitive.specs.Values.{value, sum, same}
 use Rattle.formula.specs.Trees.{Tree, constant}
 use Rattle.meaning.specs.State.{St, Kind, signal, computed, effect, scope, f0, f1, f2, f6, f17, nothing}
 use Rattle.meaning.specs.Setters.{withLog, withDepth, setFl, setPend}
@@ -19,6 +19,7 @@ use Rattle.meaning.specs.Engine.{logged, run, flushOn, flushAt, store, n
 use Rattle.meaning.specs.Words.{Command, makeSignal, makeComputed, makeEffect, makeScope, setTo, addTo, readOf, disposeOf, batchStart, batchEnd, commandOf, nodeOf, ownerOf, formulaOf}
 use Rattle.meaning.specs.Refusals.{sightOf, refusal}
 use Rattle.meaning.specs.Commands.{perform, performAny, answer, command}
+use Rattle.meaning.specs.Outcome.{madeBy}
 use Rattle.meaning.proofs.Laws.{branch, up-other}
 use Rattle.meaning.proofs.Rings.{Drops, Renews, Runs, weaker-drops, weaker-renews, dispose-ring, settle-ring, evaluate-ring, run-ring, flush-ring}
 use Rattle.meaning.proofs.Still.{Given, given, Fixed, Still, link-still, drops-still, renews-still}
@@ -73,6 +74,9 @@ end-keeps s zero = record { still = refl; gone = λ n e. e }
 end-keeps s (suc zero) = let t = withDepth s 0 in keeps-then s t _ (record { still = refl; gone = λ n e. e }) (flushOn-keeps (s .queue) t)
 end-keeps s (suc (suc d)) = record { still = refl; gone = λ n e. e }
 
+sized : (s t : St) → Keeps s t → t .size ≡ s .size
+sized s t k = ap (λ (g : Given). g .size) (k .still)
+
 -- ---- what stays, node by node
 pub record Stays (s t : St) : Type 0 where
   pub room : t .room ≡ s .room
@@ -86,7 +90,7 @@ pub record Stays (s t : St) : Type 0 where
 
 kept-stays : (s t : St) → Keeps s t → Stays s t
 kept-stays s t k =
-    let e : t .size ≡ s .size = ap (λ (g : Given). g .size) (k .still) in
+    let e = sized s t k in
     let c : t .used ≡ s .used = ap (λ (g : Given). g .used) (k .still) in
     record {
       room = ap (λ (g : Given). g .room) (k .still);
@@ -133,23 +137,21 @@ owned-keeps : (s : St) (n : ℕ) (o : Option ℕ) → Keeps s (owned s n o)
 owned-keeps s n none = keeps s
 owned-keeps s n (some o) = link-keeps s n o 0
 
-effect-stays : (s : St) (o : Option ℕ) (t : Tree) → Stays s (newEffect s o t)
+effect-keeps : (s : St) (o : Option ℕ) (t : Tree) → Keeps (node s effect t o f6 nothing) (newEffect s o t)
 unfolding newEffect logged
-effect-stays s o t =
+effect-keeps s o t =
     let n = s .size in
     let a = node s effect t o f6 nothing in
     let b = owned a n o in
     let r = evaluate b n in
-    let x = setFl (logged r n) n f2 in
     let k : Keeps a (r .st) = keeps-then a b (r .st) (owned-keeps a n o) (evaluate-ring Keeps renews b n) in
-    let l : Keeps (r .st) x = record { still = refl; gone = λ n e. e } in
-    stays-then s a x (node-stays s effect t o f6 nothing) (kept-stays a x (keeps-then a (r .st) x k l))
+    keeps-then a (r .st) (setFl (logged r n) n f2) k (record { still = refl; gone = λ n e. e })
 
 perform-stays : (s : St) (c : Command) → Stays s (perform s c .st)
 unfolding perform newSignal newComputed newScope
 perform-stays s (makeSignal v) = node-stays s signal (constant (pos 0)) none f1 _
 perform-stays s (makeComputed cs) = node-stays s computed (formulaOf cs) none f0 nothing
-perform-stays s (makeEffect o cs) = effect-stays s (ownerOf o) (formulaOf cs)
+perform-stays s (makeEffect o cs) = stays-then s _ _ (node-stays s effect (formulaOf cs) (ownerOf o) f6 nothing) (kept-stays _ _ (effect-keeps s (ownerOf o) (formulaOf cs)))
 perform-stays s (makeScope o) =
     let a = node s scope (constant (pos 0)) (ownerOf o) f0 nothing in
     stays-then s a _ (node-stays s scope (constant (pos 0)) (ownerOf o) f0 nothing) (kept-stays a _ (owned-keeps a (s .size) (ownerOf o)))
@@ -159,6 +161,20 @@ perform-stays s (readOf n) = kept-stays s _ (settle-ring Keeps renews s (nodeOf 
 perform-stays s (disposeOf n) = kept-stays s _ (dispose-ring Keeps drops s (nodeOf n))
 perform-stays s batchStart = kept-stays s _ (record { still = refl; gone = λ n e. e })
 perform-stays s batchEnd = kept-stays s _ (end-keeps s (s .depth))
+
+-- one node more, or none
+pub perform-makes : (s : St) (c : Command) → perform s c .st .size ≡ s .size + madeBy c
+unfolding perform newSignal newComputed newScope
+perform-makes s (makeSignal v) = omega arith
+perform-makes s (makeComputed cs) = omega arith
+perform-makes s (makeEffect o cs) = let e = sized _ _ (effect-keeps s (ownerOf o) (formulaOf cs)) in omega arith
+perform-makes s (makeScope o) = let e = sized _ _ (owned-keeps (node s scope (constant (pos 0)) (ownerOf o) f0 nothing) (s .size) (ownerOf o)) in omega arith
+perform-makes s (setTo n v) = let e = sized _ _ (store-keeps s (nodeOf n) (value v)) in omega arith
+perform-makes s (addTo n d) = let e = sized _ _ (store-keeps s (nodeOf n) (sum (s .sto (nodeOf n)) (value d))) in omega arith
+perform-makes s (readOf n) = let e = sized _ _ (settle-ring Keeps renews s (nodeOf n)) in omega arith
+perform-makes s (disposeOf n) = let e = sized _ _ (dispose-ring Keeps drops s (nodeOf n)) in omega arith
+perform-makes s batchStart = omega arith
+perform-makes s batchEnd = let e = sized _ _ (end-keeps s (s .depth)) in omega arith
 
 any-stays : (s : St) (c : Option Command) → Stays s (performAny s c .st)
 unfolding performAny

@@ -38,6 +38,7 @@ pub mod Binding
 pub mod Bound
 pub mod Moments
 pub mod Marked
+pub mod Ordered
 pub mod Disposed
 pub mod Unwatched
 pub mod Throughout
@@ -45,4 +46,5 @@ pub mod Stepped
 pub mod NotSo
 pub mod Cycle
 pub mod Valued
+pub mod Written
 pub mod Promised

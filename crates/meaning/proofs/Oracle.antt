@@ -475,7 +475,187 @@ script11 = script 256 1024 2048 256
     (0, 1, [], false, ((1, some (value (pos 1)), some (value (pos 1)), [], ((3, 1) ∷ [])) ∷ (1, some (value (pos 5)), some (value (pos 5)), [], ((3, 1) ∷ [])) ∷ (1, some (value (pos 6)), some (value (pos 6)), [], []) ∷ (2, none, none, ((0, 1) ∷ (1, 1) ∷ []), []) ∷ []))
 
 abbrev script12 : Script
-script12 = script 12 28 60 3
+script12 = script 256 1024 2048 256
+    ((pos 1 ∷ pos 0 ∷ [])
+    ∷ (pos 3 ∷ negsuc 0 ∷ pos 2 ∷ pos 0 ∷ [])
+    ∷ (pos 9 ∷ [])
+    ∷ (pos 5 ∷ pos 0 ∷ pos 1 ∷ [])
+    ∷ (pos 3 ∷ negsuc 0 ∷ pos 2 ∷ pos 0 ∷ [])
+    ∷ (pos 5 ∷ pos 0 ∷ pos 0 ∷ [])
+    ∷ (pos 10 ∷ [])
+    ∷ [])
+    ((0, value (pos 0), [])
+    ∷ (0, value (pos 1), ((1, value (pos 0)) ∷ []))
+    ∷ (0, value (pos 0), [])
+    ∷ (0, value (pos 0), [])
+    ∷ (0, value (pos 2), ((2, value (pos 1)) ∷ []))
+    ∷ (0, value (pos 0), [])
+    ∷ (0, value (pos 0), ((1, value (pos 0)) ∷ (2, value (pos 0)) ∷ []))
+    ∷ [])
+    (0, 2, [], false, ((1, some (value (pos 0)), some (value (pos 0)), [], ((1, 1) ∷ (2, 2) ∷ [])) ∷ (2, none, none, ((0, 1) ∷ []), []) ∷ (2, none, none, ((0, 2) ∷ []), []) ∷ []))
+
+abbrev script13 : Script
+script13 = script 256 1024 2048 256
+    ((pos 1 ∷ pos 0 ∷ [])
+    ∷ (pos 1 ∷ pos 0 ∷ [])
+    ∷ (pos 3 ∷ negsuc 0 ∷ pos 2 ∷ pos 0 ∷ [])
+    ∷ (pos 4 ∷ pos 2 ∷ [])
+    ∷ (pos 3 ∷ pos 3 ∷ pos 2 ∷ pos 1 ∷ [])
+    ∷ (pos 9 ∷ [])
+    ∷ (pos 5 ∷ pos 1 ∷ pos 1 ∷ [])
+    ∷ (pos 5 ∷ pos 0 ∷ pos 1 ∷ [])
+    ∷ (pos 10 ∷ [])
+    ∷ (pos 8 ∷ pos 4 ∷ [])
+    ∷ [])
+    ((0, value (pos 0), [])
+    ∷ (0, value (pos 1), [])
+    ∷ (0, value (pos 2), ((2, value (pos 0)) ∷ []))
+    ∷ (0, value (pos 3), [])
+    ∷ (0, value (pos 4), ((4, value (pos 0)) ∷ []))
+    ∷ (0, value (pos 0), [])
+    ∷ (0, value (pos 0), [])
+    ∷ (0, value (pos 0), [])
+    ∷ (0, value (pos 0), ((4, value (pos 1)) ∷ (2, value (pos 1)) ∷ []))
+    ∷ (4, value (pos 0), [])
+    ∷ [])
+    (0, 2, [], false, ((1, some (value (pos 1)), some (value (pos 1)), [], ((2, 2) ∷ [])) ∷ (1, some (value (pos 1)), some (value (pos 1)), [], []) ∷ (2, none, none, ((0, 2) ∷ []), []) ∷ (0, none, none, [], []) ∷ (0, none, none, [], []) ∷ []))
+
+abbrev script14 : Script
+script14 = script 256 1024 2048 256
+    ((pos 1 ∷ pos 0 ∷ [])
+    ∷ (pos 1 ∷ pos 0 ∷ [])
+    ∷ (pos 3 ∷ negsuc 0 ∷ pos 2 ∷ pos 0 ∷ [])
+    ∷ (pos 4 ∷ pos 2 ∷ [])
+    ∷ (pos 3 ∷ pos 3 ∷ pos 2 ∷ pos 1 ∷ [])
+    ∷ (pos 9 ∷ [])
+    ∷ (pos 5 ∷ pos 0 ∷ pos 1 ∷ [])
+    ∷ (pos 5 ∷ pos 1 ∷ pos 1 ∷ [])
+    ∷ (pos 10 ∷ [])
+    ∷ (pos 8 ∷ pos 4 ∷ [])
+    ∷ [])
+    ((0, value (pos 0), [])
+    ∷ (0, value (pos 1), [])
+    ∷ (0, value (pos 2), ((2, value (pos 0)) ∷ []))
+    ∷ (0, value (pos 3), [])
+    ∷ (0, value (pos 4), ((4, value (pos 0)) ∷ []))
+    ∷ (0, value (pos 0), [])
+    ∷ (0, value (pos 0), [])
+    ∷ (0, value (pos 0), [])
+    ∷ (0, value (pos 0), ((2, value (pos 1)) ∷ []))
+    ∷ (4, value (pos 0), [])
+    ∷ [])
+    (0, 1, [], false, ((1, some (value (pos 1)), some (value (pos 1)), [], ((2, 1) ∷ [])) ∷ (17, some (value (pos 0)), some (value (pos 1)), [], []) ∷ (2, none, none, ((0, 1) ∷ []), []) ∷ (0, none, none, [], []) ∷ (2, none, none, [], []) ∷ []))
+
+abbrev script15 : Script
+script15 = script 256 1024 2048 256
+    ((pos 1 ∷ pos 5 ∷ [])
+    ∷ (pos 3 ∷ negsuc 0 ∷ pos 2 ∷ pos 0 ∷ [])
+    ∷ (pos 9 ∷ [])
+    ∷ (pos 5 ∷ pos 0 ∷ pos 3 ∷ [])
+    ∷ (pos 7 ∷ pos 0 ∷ [])
+    ∷ (pos 5 ∷ pos 0 ∷ pos 5 ∷ [])
+    ∷ (pos 7 ∷ pos 0 ∷ [])
+    ∷ (pos 10 ∷ [])
+    ∷ [])
+    ((0, value (pos 0), [])
+    ∷ (0, value (pos 1), ((1, value (pos 5)) ∷ []))
+    ∷ (0, value (pos 0), [])
+    ∷ (0, value (pos 0), [])
+    ∷ (0, value (pos 3), [])
+    ∷ (0, value (pos 0), [])
+    ∷ (0, value (pos 5), [])
+    ∷ (0, value (pos 0), ((1, value (pos 5)) ∷ []))
+    ∷ [])
+    (0, 1, [], false, ((1, some (value (pos 5)), some (value (pos 5)), [], ((1, 1) ∷ [])) ∷ (2, none, none, ((0, 1) ∷ []), []) ∷ []))
+
+abbrev script16 : Script
+script16 = script 12 28 60 3
+    ((pos 1 ∷ pos 0 ∷ [])
+    ∷ (pos 2 ∷ pos 2 ∷ pos 0 ∷ [])
+    ∷ (pos 3 ∷ negsuc 0 ∷ pos 2 ∷ pos 1 ∷ [])
+    ∷ (pos 3 ∷ negsuc 0 ∷ pos 2 ∷ pos 0 ∷ [])
+    ∷ (pos 5 ∷ pos 0 ∷ pos 4 ∷ [])
+    ∷ [])
+    ((0, value (pos 0), [])
+    ∷ (0, value (pos 1), [])
+    ∷ (0, value (pos 2), ((2, value (pos 0)) ∷ []))
+    ∷ (0, value (pos 3), ((3, value (pos 0)) ∷ []))
+    ∷ (0, value (pos 0), ((2, value (pos 4)) ∷ (3, value (pos 4)) ∷ []))
+    ∷ [])
+    (0, 3, [], false, ((1, some (value (pos 4)), some (value (pos 4)), [], ((1, 1) ∷ (3, 3) ∷ [])) ∷ (1, some (value (pos 4)), none, ((0, 1) ∷ []), ((2, 2) ∷ [])) ∷ (2, none, none, ((1, 2) ∷ []), []) ∷ (2, none, none, ((0, 3) ∷ []), []) ∷ []))
+
+abbrev script17 : Script
+script17 = script 12 28 60 3
+    ((pos 1 ∷ pos 0 ∷ [])
+    ∷ (pos 1 ∷ pos 0 ∷ [])
+    ∷ (pos 3 ∷ negsuc 0 ∷ pos 2 ∷ pos 0 ∷ [])
+    ∷ (pos 3 ∷ pos 2 ∷ pos 1 ∷ pos 7 ∷ [])
+    ∷ (pos 3 ∷ pos 3 ∷ pos 2 ∷ pos 1 ∷ [])
+    ∷ (pos 9 ∷ [])
+    ∷ (pos 5 ∷ pos 1 ∷ pos 9 ∷ [])
+    ∷ (pos 5 ∷ pos 0 ∷ pos 4 ∷ [])
+    ∷ (pos 10 ∷ [])
+    ∷ [])
+    ((0, value (pos 0), [])
+    ∷ (0, value (pos 1), [])
+    ∷ (0, value (pos 2), ((2, value (pos 0)) ∷ []))
+    ∷ (0, value (pos 3), ((3, value (pos 7)) ∷ []))
+    ∷ (0, value (pos 4), ((4, value (pos 0)) ∷ []))
+    ∷ (0, value (pos 0), [])
+    ∷ (0, value (pos 0), [])
+    ∷ (0, value (pos 0), [])
+    ∷ (0, value (pos 0), ((2, value (pos 4)) ∷ []))
+    ∷ [])
+    (0, 1, [], false, ((1, some (value (pos 4)), some (value (pos 4)), [], ((2, 1) ∷ [])) ∷ (17, some (value (pos 0)), some (value (pos 9)), [], []) ∷ (2, none, none, ((0, 1) ∷ []), []) ∷ (2, none, none, [], []) ∷ (2, none, none, [], []) ∷ []))
+
+abbrev script18 : Script
+script18 = script 12 28 60 3
+    ((pos 1 ∷ pos 0 ∷ [])
+    ∷ (pos 1 ∷ pos 0 ∷ [])
+    ∷ (pos 3 ∷ negsuc 0 ∷ pos 2 ∷ pos 0 ∷ [])
+    ∷ (pos 4 ∷ pos 2 ∷ [])
+    ∷ (pos 3 ∷ pos 3 ∷ pos 2 ∷ pos 1 ∷ [])
+    ∷ (pos 9 ∷ [])
+    ∷ (pos 5 ∷ pos 1 ∷ pos 9 ∷ [])
+    ∷ (pos 5 ∷ pos 0 ∷ pos 4 ∷ [])
+    ∷ (pos 10 ∷ [])
+    ∷ [])
+    ((0, value (pos 0), [])
+    ∷ (0, value (pos 1), [])
+    ∷ (0, value (pos 2), ((2, value (pos 0)) ∷ []))
+    ∷ (0, value (pos 3), [])
+    ∷ (0, value (pos 4), ((4, value (pos 0)) ∷ []))
+    ∷ (0, value (pos 0), [])
+    ∷ (0, value (pos 0), [])
+    ∷ (0, value (pos 0), [])
+    ∷ (0, value (pos 0), ((4, value (pos 9)) ∷ (2, value (pos 4)) ∷ []))
+    ∷ [])
+    (0, 2, [], false, ((1, some (value (pos 4)), some (value (pos 4)), [], ((2, 2) ∷ [])) ∷ (1, some (value (pos 9)), some (value (pos 9)), [], []) ∷ (2, none, none, ((0, 2) ∷ []), []) ∷ (0, none, none, [], []) ∷ (0, none, none, [], []) ∷ []))
+
+abbrev script19 : Script
+script19 = script 12 28 60 3
+    ((pos 1 ∷ pos 0 ∷ [])
+    ∷ (pos 1 ∷ pos 0 ∷ [])
+    ∷ (pos 1 ∷ pos 0 ∷ [])
+    ∷ (pos 3 ∷ negsuc 0 ∷ pos 2 ∷ pos 0 ∷ [])
+    ∷ (pos 3 ∷ pos 3 ∷ pos 2 ∷ pos 1 ∷ [])
+    ∷ (pos 3 ∷ pos 4 ∷ pos 2 ∷ pos 2 ∷ [])
+    ∷ (pos 9 ∷ [])
+    ∷ (pos 5 ∷ pos 2 ∷ pos 9 ∷ [])
+    ∷ [])
+    ((0, value (pos 0), [])
+    ∷ (0, value (pos 1), [])
+    ∷ (0, value (pos 2), [])
+    ∷ (0, value (pos 3), ((3, value (pos 0)) ∷ []))
+    ∷ (0, value (pos 4), ((4, value (pos 0)) ∷ []))
+    ∷ (0, value (pos 5), ((5, value (pos 0)) ∷ []))
+    ∷ (0, value (pos 0), [])
+    ∷ (0, value (pos 0), [])
+    ∷ [])
+    (1, 0, (3 ∷ 4 ∷ 5 ∷ []), false, ((1, some (value (pos 0)), some (value (pos 0)), [], ((3, 0) ∷ [])) ∷ (1, some (value (pos 0)), some (value (pos 0)), [], ((4, 0) ∷ [])) ∷ (17, some (value (pos 0)), some (value (pos 9)), [], ((5, 0) ∷ [])) ∷ (0, none, none, ((0, 0) ∷ (4, 0) ∷ []), []) ∷ (0, none, none, ((1, 0) ∷ (5, 0) ∷ []), ((3, 0) ∷ [])) ∷ (32, none, none, ((2, 0) ∷ []), ((4, 0) ∷ [])) ∷ []))
+
+abbrev script20 : Script
+script20 = script 12 28 60 3
     ((pos 1 ∷ pos 0 ∷ [])
     ∷ (pos 1 ∷ pos 1 ∷ [])
     ∷ (pos 7 ∷ pos 0 ∷ [])
@@ -560,8 +740,8 @@ script12 = script 12 28 60 3
     ∷ [])
     (0, 28, [], false, ((1, some (value (pos 11)), some (value (pos 11)), [], ((2, 26) ∷ (4, 27) ∷ [])) ∷ (1, some (value (pos 1)), some (value (pos 1)), [], ((2, 26) ∷ (2, 26) ∷ (4, 27) ∷ (5, 28) ∷ [])) ∷ (2, none, none, ((1, 26) ∷ (0, 26) ∷ (1, 26) ∷ []), []) ∷ (2, none, none, [], []) ∷ (2, none, none, ((0, 27) ∷ (1, 27) ∷ []), []) ∷ (2, none, none, ((1, 28) ∷ []), []) ∷ (0, none, none, [], []) ∷ (0, none, none, [], []) ∷ (0, none, none, [], []) ∷ (17, some (value (negsuc 0)), some (value (pos 1)), [], []) ∷ []))
 
-abbrev script13 : Script
-script13 = script 12 28 60 3
+abbrev script21 : Script
+script21 = script 12 28 60 3
     ((pos 1 ∷ pos 0 ∷ [])
     ∷ (pos 1 ∷ pos 1 ∷ [])
     ∷ (pos 5 ∷ pos 1 ∷ pos 0 ∷ [])
@@ -646,8 +826,8 @@ script13 = script 12 28 60 3
     ∷ [])
     (0, 21, [], false, ((1, some (value (pos 0)), some (value (pos 0)), [], ((2, 19) ∷ (5, 18) ∷ (6, 21) ∷ (8, 20) ∷ [])) ∷ (1, some (value (negsuc 0)), some (value (negsuc 0)), [], ((2, 19) ∷ (7, 17) ∷ (5, 19) ∷ [])) ∷ (1, some (value (negsuc 0)), none, ((1, 19) ∷ (0, 19) ∷ []), ((5, 19) ∷ (8, 20) ∷ (7, 17) ∷ [])) ∷ (0, none, none, [], []) ∷ (0, none, none, [], []) ∷ (2, none, none, ((0, 18) ∷ (2, 19) ∷ (1, 19) ∷ []), []) ∷ (2, none, none, ((0, 21) ∷ []), []) ∷ (49, some (value (pos 2)), none, ((2, 17) ∷ (1, 17) ∷ []), []) ∷ (2, none, none, ((0, 20) ∷ (2, 20) ∷ []), []) ∷ []))
 
-abbrev script14 : Script
-script14 = script 12 28 60 3
+abbrev script22 : Script
+script22 = script 12 28 60 3
     ((pos 1 ∷ pos 0 ∷ [])
     ∷ (pos 1 ∷ pos 1 ∷ [])
     ∷ (pos 5 ∷ pos 0 ∷ pos 1 ∷ [])
@@ -732,8 +912,8 @@ script14 = script 12 28 60 3
     ∷ [])
     (1, 24, (3 ∷ 5 ∷ 8 ∷ 7 ∷ []), false, ((1, some (value (pos 9223372036854775807)), some (value (pos 9223372036854775807)), [], ((2, 21) ∷ (7, 24) ∷ [])) ∷ (17, some (value (pos 1)), some (value (pos 1)), [], ((2, 21) ∷ (7, 24) ∷ [])) ∷ (49, some (value (pos 29)), none, ((1, 21) ∷ (0, 21) ∷ []), ((3, 22) ∷ (4, 23) ∷ (7, 24) ∷ (8, 24) ∷ [])) ∷ (32, none, none, ((2, 22) ∷ []), []) ∷ (33, some (value (pos 29)), none, ((2, 23) ∷ []), ((5, 24) ∷ (8, 24) ∷ [])) ∷ (32, none, none, ((4, 24) ∷ (8, 0) ∷ []), []) ∷ (0, none, none, [], []) ∷ (48, none, none, ((1, 24) ∷ (2, 24) ∷ (0, 24) ∷ []), []) ∷ (32, none, none, ((2, 24) ∷ (4, 24) ∷ []), ((5, 0) ∷ [])) ∷ []))
 
-abbrev script15 : Script
-script15 = script 12 28 60 3
+abbrev script23 : Script
+script23 = script 12 28 60 3
     ((pos 1 ∷ pos 0 ∷ [])
     ∷ (pos 1 ∷ pos 1 ∷ [])
     ∷ (pos 3 ∷ negsuc 0 ∷ pos 3 ∷ pos 0 ∷ pos 2 ∷ pos 0 ∷ pos 3 ∷ pos 0 ∷ pos 2 ∷ pos 1 ∷ pos 2 ∷ pos 0 ∷ [])
@@ -820,8 +1000,8 @@ script15 = script 12 28 60 3
     ∷ [])
     (1, 14, (6 ∷ 7 ∷ 8 ∷ []), false, ((1, some (value (pos 0)), some (value (pos 0)), [], ((6, 12) ∷ (4, 13) ∷ (10, 14) ∷ (11, 14) ∷ [])) ∷ (1, some (value (pos 0)), some (value (pos 0)), [], ((4, 13) ∷ [])) ∷ (0, none, none, [], []) ∷ (17, some (value (negsuc 13)), some (value (negsuc 40)), [], ((6, 12) ∷ (5, 9) ∷ [])) ∷ (1, some (value (pos 0)), none, ((0, 13) ∷ (1, 13) ∷ []), ((8, 14) ∷ [])) ∷ (33, some (value (negsuc 13)), none, ((3, 9) ∷ []), ((7, 10) ∷ (8, 14) ∷ [])) ∷ (32, none, none, ((3, 12) ∷ (0, 12) ∷ []), []) ∷ (32, none, none, ((5, 10) ∷ []), []) ∷ (32, none, none, ((4, 14) ∷ (5, 14) ∷ []), []) ∷ (0, none, none, [], []) ∷ (2, none, none, ((0, 14) ∷ []), []) ∷ (2, none, none, ((0, 14) ∷ []), []) ∷ []))
 
-abbrev script16 : Script
-script16 = script 12 28 60 3
+abbrev script24 : Script
+script24 = script 12 28 60 3
     ((pos 1 ∷ pos 0 ∷ [])
     ∷ (pos 1 ∷ pos 1 ∷ [])
     ∷ (pos 3 ∷ negsuc 0 ∷ pos 2 ∷ pos 1 ∷ [])
@@ -908,8 +1088,8 @@ script16 = script 12 28 60 3
     ∷ [])
     (0, 13, [], false, ((1, some (value (negsuc 1)), some (value (negsuc 1)), [], ((5, 11) ∷ [])) ∷ (1, some (value (negsuc 0)), some (value (negsuc 0)), [], ((2, 13) ∷ [])) ∷ (2, none, none, ((1, 13) ∷ []), []) ∷ (0, none, none, [], []) ∷ (0, none, none, [], []) ∷ (1, some (value (negsuc 1)), none, ((0, 11) ∷ []), ((11, 12) ∷ [])) ∷ (0, none, none, [], []) ∷ (0, none, none, [], []) ∷ (17, some (value (pos 2)), some (value (negsuc 1)), [], []) ∷ (0, none, none, [], []) ∷ (0, none, none, [], []) ∷ (2, none, none, ((5, 12) ∷ []), []) ∷ []))
 
-abbrev script17 : Script
-script17 = script 9 14 30 2
+abbrev script25 : Script
+script25 = script 9 14 30 2
     ((pos 1 ∷ pos 0 ∷ [])
     ∷ (pos 1 ∷ pos 1 ∷ [])
     ∷ (pos 10 ∷ [])
@@ -994,8 +1174,8 @@ script17 = script 9 14 30 2
     ∷ [])
     (0, 33, [], false, ((1, some (value (negsuc 0)), some (value (negsuc 0)), [], ((2, 32) ∷ [])) ∷ (1, some (value (pos 1)), some (value (pos 1)), [], ((2, 32) ∷ (3, 0) ∷ (4, 33) ∷ [])) ∷ (1, some (value (pos 0)), none, ((0, 32) ∷ (1, 32) ∷ []), ((3, 0) ∷ (4, 33) ∷ [])) ∷ (49, some (value (pos 3)), none, ((2, 0) ∷ (1, 0) ∷ []), []) ∷ (2, none, none, ((2, 33) ∷ (1, 33) ∷ []), []) ∷ (17, some (value (pos 2)), some (value (negsuc 0)), [], []) ∷ []))
 
-abbrev script18 : Script
-script18 = script 9 14 30 2
+abbrev script26 : Script
+script26 = script 9 14 30 2
     ((pos 1 ∷ pos 0 ∷ [])
     ∷ (pos 1 ∷ pos 1 ∷ [])
     ∷ (pos 6 ∷ pos 1 ∷ pos 2 ∷ [])
@@ -1080,8 +1260,8 @@ script18 = script 9 14 30 2
     ∷ [])
     (0, 41, [], false, ((1, some (value (pos 29)), some (value (pos 29)), [], ((2, 39) ∷ [])) ∷ (1, some (value (pos 16)), some (value (pos 16)), [], ((2, 39) ∷ (4, 41) ∷ [])) ∷ (1, some (value (pos 45)), none, ((0, 39) ∷ (1, 39) ∷ []), ((3, 40) ∷ [])) ∷ (1, some (value (pos 135)), none, ((2, 40) ∷ []), ((4, 41) ∷ [])) ∷ (2, none, none, ((1, 41) ∷ (3, 41) ∷ []), []) ∷ []))
 
-abbrev script19 : Script
-script19 = script 9 14 30 2
+abbrev script27 : Script
+script27 = script 9 14 30 2
     ((pos 1 ∷ pos 0 ∷ [])
     ∷ (pos 1 ∷ pos 1 ∷ [])
     ∷ (pos 3 ∷ negsuc 0 ∷ pos 3 ∷ pos 0 ∷ pos 2 ∷ pos 0 ∷ pos 3 ∷ pos 0 ∷ pos 2 ∷ pos 1 ∷ pos 2 ∷ pos 0 ∷ [])
@@ -1166,8 +1346,8 @@ script19 = script 9 14 30 2
     ∷ [])
     (0, 15, [], false, ((1, some (value (pos 0)), some (value (pos 0)), [], ((4, 12) ∷ [])) ∷ (1, some (value (pos 1)), some (value (pos 1)), [], ((4, 12) ∷ (7, 9) ∷ [])) ∷ (0, none, none, [], []) ∷ (1, some (value (pos 49)), some (value (pos 49)), [], ((8, 10) ∷ [])) ∷ (1, some (value (pos 1)), none, ((0, 12) ∷ (1, 12) ∷ []), ((6, 15) ∷ [])) ∷ (1, some (value (negsuc 5)), some (value (negsuc 5)), [], ((6, 15) ∷ [])) ∷ (2, none, none, ((5, 15) ∷ (4, 15) ∷ []), []) ∷ (49, some (value (pos 0)), none, ((1, 9) ∷ []), []) ∷ (2, none, none, ((3, 10) ∷ []), []) ∷ []))
 
-abbrev script20 : Script
-script20 = script 9 14 30 2
+abbrev script28 : Script
+script28 = script 9 14 30 2
     ((pos 1 ∷ pos 0 ∷ [])
     ∷ (pos 1 ∷ pos 1 ∷ [])
     ∷ (pos 5 ∷ pos 0 ∷ negsuc 34 ∷ [])
@@ -1254,8 +1434,8 @@ script20 = script 9 14 30 2
     ∷ [])
     (0, 15, [], false, ((1, some (value (negsuc 14)), some (value (negsuc 14)), [], ((8, 15) ∷ [])) ∷ (1, some (value (pos 0)), some (value (pos 0)), [], ((2, 14) ∷ [])) ∷ (1, some (value (pos 0)), none, ((1, 14) ∷ []), ((8, 15) ∷ [])) ∷ (17, some (value (negsuc 44)), none, [], []) ∷ (0, none, none, [], []) ∷ (0, none, none, [], []) ∷ (2, none, none, [], []) ∷ (0, none, none, [], []) ∷ (2, none, none, ((2, 15) ∷ (0, 15) ∷ []), []) ∷ []))
 
-abbrev script21 : Script
-script21 = script 9 14 30 2
+abbrev script29 : Script
+script29 = script 9 14 30 2
     ((pos 1 ∷ pos 0 ∷ [])
     ∷ (pos 1 ∷ pos 1 ∷ [])
     ∷ (pos 3 ∷ negsuc 0 ∷ pos 3 ∷ pos 0 ∷ pos 2 ∷ pos 1 ∷ pos 3 ∷ pos 0 ∷ pos 2 ∷ pos 0 ∷ [])
@@ -1340,8 +1520,8 @@ script21 = script 9 14 30 2
     ∷ [])
     (0, 11, [], false, ((1, some (value (pos 6)), some (value (pos 6)), [], ((4, 11) ∷ [])) ∷ (17, some (value (pos 1)), some (value (pos 0)), [], []) ∷ (0, none, none, [], []) ∷ (0, none, none, [], []) ∷ (2, none, none, ((0, 11) ∷ []), []) ∷ (0, none, none, [], []) ∷ (17, some (value (pos 0)), some (value (pos 1)), [], []) ∷ (1, some (value (pos 0)), some (value (pos 0)), [], []) ∷ (0, none, none, [], []) ∷ []))
 
-abbrev script22 : Script
-script22 = script 16 60 90 8
+abbrev script30 : Script
+script30 = script 16 60 90 8
     ((pos 1 ∷ pos 0 ∷ [])
     ∷ (pos 1 ∷ pos 1 ∷ [])
     ∷ (pos 3 ∷ negsuc 0 ∷ pos 6 ∷ pos 0 ∷ pos 2 ∷ pos 1 ∷ pos 2 ∷ pos 0 ∷ [])
@@ -1428,8 +1608,8 @@ script22 = script 16 60 90 8
     ∷ [])
     (0, 47, [], false, ((1, some (value (pos 0)), some (value (pos 0)), [], ((2, 41) ∷ (3, 42) ∷ (3, 42) ∷ (10, 47) ∷ [])) ∷ (1, some (value (pos 0)), some (value (pos 0)), [], ((2, 41) ∷ (3, 42) ∷ (5, 43) ∷ (6, 44) ∷ (11, 45) ∷ (10, 46) ∷ [])) ∷ (2, none, none, ((1, 41) ∷ (0, 41) ∷ []), []) ∷ (1, some (value (pos 0)), none, ((0, 42) ∷ (1, 42) ∷ (0, 42) ∷ []), ((5, 43) ∷ (6, 44) ∷ (5, 43) ∷ (11, 47) ∷ (9, 47) ∷ (10, 47) ∷ [])) ∷ (0, none, none, [], []) ∷ (2, none, none, ((3, 43) ∷ (1, 43) ∷ (3, 43) ∷ []), []) ∷ (2, none, none, ((3, 44) ∷ (1, 44) ∷ []), []) ∷ (2, none, none, [], []) ∷ (1, some (value (pos 9223372036854775807)), some (value (pos 9223372036854775807)), [], ((10, 47) ∷ (12, 40) ∷ [])) ∷ (1, some (value (pos 0)), none, ((3, 47) ∷ []), ((10, 47) ∷ [])) ∷ (1, some (value (pos 1)), none, ((1, 46) ∷ (9, 47) ∷ (3, 47) ∷ (0, 47) ∷ (8, 47) ∷ []), ((11, 47) ∷ (12, 40) ∷ [])) ∷ (2, none, none, ((1, 45) ∷ (10, 47) ∷ (3, 47) ∷ []), []) ∷ (2, none, none, ((8, 40) ∷ (10, 40) ∷ []), []) ∷ []))
 
-abbrev script23 : Script
-script23 = script 16 60 90 8
+abbrev script31 : Script
+script31 = script 16 60 90 8
     ((pos 1 ∷ pos 0 ∷ [])
     ∷ (pos 1 ∷ pos 1 ∷ [])
     ∷ (pos 2 ∷ pos 3 ∷ pos 0 ∷ pos 2 ∷ pos 1 ∷ pos 2 ∷ pos 0 ∷ [])
@@ -1514,8 +1694,8 @@ script23 = script 16 60 90 8
     ∷ [])
     (0, 22, [], false, ((1, some (value (pos 1)), some (value (pos 1)), [], ((3, 15) ∷ (6, 16) ∷ [])) ∷ (17, some (value (negsuc 0)), some (value (pos 0)), [], []) ∷ (17, some (value (pos 0)), none, [], []) ∷ (2, none, none, ((0, 15) ∷ []), []) ∷ (2, none, none, [], []) ∷ (17, some (value (pos 8801925842473136988)), some (value (negsuc 40)), [], []) ∷ (2, none, none, ((0, 16) ∷ []), []) ∷ (2, none, none, [], []) ∷ (0, none, none, [], []) ∷ (1, some (value (negsuc 32)), some (value (negsuc 32)), [], []) ∷ (0, none, none, [], []) ∷ (2, none, none, [], []) ∷ []))
 
-abbrev script24 : Script
-script24 = script 16 60 90 8
+abbrev script32 : Script
+script32 = script 16 60 90 8
     ((pos 1 ∷ pos 0 ∷ [])
     ∷ (pos 1 ∷ pos 1 ∷ [])
     ∷ (pos 1 ∷ negsuc 0 ∷ [])
@@ -1602,8 +1782,8 @@ script24 = script 16 60 90 8
     ∷ [])
     (0, 32, [], false, ((1, some (value (pos 2)), some (value (pos 2)), [], ((3, 32) ∷ [])) ∷ (17, some (value (pos 1)), some (value (pos 1)), [], []) ∷ (1, some (value (negsuc 9)), some (value (negsuc 9)), [], ((4, 28) ∷ (3, 32) ∷ (4, 29) ∷ (5, 30) ∷ [])) ∷ (1, some (value (pos 1)), none, ((2, 32) ∷ (0, 32) ∷ []), ((4, 29) ∷ (5, 30) ∷ [])) ∷ (2, none, none, ((2, 28) ∷ (3, 29) ∷ (2, 29) ∷ []), []) ∷ (2, none, none, ((3, 30) ∷ (2, 30) ∷ []), []) ∷ (17, some (value (pos 0)), none, [], []) ∷ (0, none, none, [], []) ∷ (0, none, none, [], []) ∷ (0, none, none, [], []) ∷ (1, some (value (negsuc 5)), some (value (negsuc 5)), [], []) ∷ []))
 
-abbrev script25 : Script
-script25 = script 16 60 90 8
+abbrev script33 : Script
+script33 = script 16 60 90 8
     ((pos 1 ∷ pos 0 ∷ [])
     ∷ (pos 1 ∷ pos 1 ∷ [])
     ∷ (pos 3 ∷ pos 2 ∷ pos 6 ∷ pos 0 ∷ pos 8 ∷ pos 0 ∷ pos 2 ∷ pos 1 ∷ pos 2 ∷ pos 1 ∷ pos 3 ∷ pos 0 ∷ pos 2 ∷ pos 0 ∷ pos 2 ∷ pos 0 ∷ pos 2 ∷ pos 0 ∷ [])
@@ -1690,8 +1870,8 @@ script25 = script 16 60 90 8
     ∷ [])
     (0, 14, [], false, ((1, some (value (pos 1)), some (value (pos 1)), [], ((2, 13) ∷ (11, 7) ∷ (5, 14) ∷ [])) ∷ (1, some (value (pos 0)), some (value (pos 0)), [], ((2, 13) ∷ (5, 14) ∷ [])) ∷ (2, none, none, ((1, 13) ∷ (0, 13) ∷ []), []) ∷ (0, none, none, [], []) ∷ (0, none, none, [], []) ∷ (2, none, none, ((1, 14) ∷ (0, 14) ∷ []), []) ∷ (2, none, none, [], []) ∷ (2, none, none, [], []) ∷ (1, some (value (pos 0)), some (value (pos 0)), [], ((10, 8) ∷ (12, 9) ∷ [])) ∷ (0, none, none, ((10, 0) ∷ (11, 0) ∷ (12, 0) ∷ []), []) ∷ (2, none, none, ((8, 8) ∷ []), ((9, 0) ∷ [])) ∷ (2, none, none, ((0, 7) ∷ []), ((9, 0) ∷ [])) ∷ (2, none, none, ((8, 9) ∷ []), ((9, 0) ∷ [])) ∷ (0, none, none, [], []) ∷ (0, none, none, [], []) ∷ (0, none, none, [], []) ∷ []))
 
-abbrev script26 : Script
-script26 = script 16 60 90 8
+abbrev script34 : Script
+script34 = script 16 60 90 8
     ((pos 1 ∷ pos 0 ∷ [])
     ∷ (pos 1 ∷ pos 1 ∷ [])
     ∷ (pos 4 ∷ negsuc 0 ∷ [])
@@ -1776,8 +1956,8 @@ script26 = script 16 60 90 8
     ∷ [])
     (0, 19, [], false, ((1, some (value (pos 38)), some (value (pos 38)), [], ((4, 18) ∷ (8, 17) ∷ [])) ∷ (1, some (value (pos 1)), some (value (pos 1)), [], ((5, 13) ∷ (4, 18) ∷ [])) ∷ (0, none, none, ((3, 0) ∷ []), []) ∷ (0, none, none, ((5, 0) ∷ []), ((2, 0) ∷ [])) ∷ (1, some (value (pos 39)), none, ((1, 18) ∷ (0, 18) ∷ []), ((8, 18) ∷ (9, 19) ∷ [])) ∷ (2, none, none, ((1, 13) ∷ []), ((3, 0) ∷ [])) ∷ (0, none, none, ((8, 0) ∷ []), []) ∷ (0, none, none, [], []) ∷ (2, none, none, ((0, 17) ∷ (4, 18) ∷ []), ((6, 0) ∷ [])) ∷ (2, none, none, ((4, 19) ∷ []), []) ∷ (2, none, none, [], []) ∷ (0, none, none, [], []) ∷ (0, none, none, [], []) ∷ (0, none, none, [], []) ∷ (2, none, none, [], []) ∷ (2, none, none, [], []) ∷ []))
 
-abbrev script27 : Script
-script27 = script 10 20 25 1
+abbrev script35 : Script
+script35 = script 10 20 25 1
     ((pos 1 ∷ pos 0 ∷ [])
     ∷ (pos 1 ∷ pos 1 ∷ [])
     ∷ (pos 1 ∷ negsuc 0 ∷ [])
@@ -1866,8 +2046,8 @@ script27 = script 10 20 25 1
     ∷ [])
     (0, 17, [], false, ((1, some (value (pos 0)), some (value (pos 0)), [], []) ∷ (1, some (value (pos 2)), some (value (pos 2)), [], []) ∷ (1, some (value (pos 1)), some (value (pos 1)), [], []) ∷ (2, none, none, [], []) ∷ (17, some (value (pos 59)), none, [], []) ∷ (17, some (value (pos 120)), none, [], []) ∷ (2, none, none, [], []) ∷ (17, some (value (pos 1)), some (value (pos 0)), [], []) ∷ []))
 
-abbrev script28 : Script
-script28 = script 10 20 25 1
+abbrev script36 : Script
+script36 = script 10 20 25 1
     ((pos 1 ∷ pos 0 ∷ [])
     ∷ (pos 1 ∷ pos 1 ∷ [])
     ∷ (pos 3 ∷ negsuc 0 ∷ pos 4 ∷ pos 0 ∷ pos 8 ∷ pos 0 ∷ pos 2 ∷ pos 0 ∷ pos 2 ∷ pos 0 ∷ pos 2 ∷ pos 0 ∷ pos 2 ∷ pos 1 ∷ [])
@@ -1952,8 +2132,8 @@ script28 = script 10 20 25 1
     ∷ [])
     (0, 9, [], false, ((1, some (value (pos 4)), some (value (pos 4)), [], ((2, 9) ∷ (4, 7) ∷ (3, 7) ∷ [])) ∷ (1, some (value (pos 1)), some (value (pos 1)), [], ((2, 9) ∷ (3, 7) ∷ [])) ∷ (2, none, none, ((0, 9) ∷ (1, 9) ∷ []), []) ∷ (49, some (value (pos 6)), none, ((0, 7) ∷ (1, 7) ∷ []), ((4, 7) ∷ [])) ∷ (33, some (value (pos 10)), none, ((0, 7) ∷ (3, 7) ∷ []), []) ∷ (17, some (value (pos 1)), some (value (pos 24)), [], []) ∷ (17, some (value (pos 39)), some (value (pos 1)), [], []) ∷ (1, some (value (pos 0)), some (value (pos 0)), [], []) ∷ []))
 
-abbrev script29 : Script
-script29 = script 10 20 25 1
+abbrev script37 : Script
+script37 = script 10 20 25 1
     ((pos 1 ∷ pos 0 ∷ [])
     ∷ (pos 1 ∷ pos 1 ∷ [])
     ∷ (pos 3 ∷ negsuc 0 ∷ pos 6 ∷ pos 0 ∷ pos 2 ∷ pos 0 ∷ pos 2 ∷ pos 1 ∷ [])
@@ -2040,8 +2220,8 @@ script29 = script 10 20 25 1
     ∷ [])
     (1, 7, (2 ∷ 4 ∷ 5 ∷ 6 ∷ 7 ∷ 8 ∷ 9 ∷ []), false, ((17, some (value (negsuc 0)), some (value (negsuc 1)), [], ((2, 4) ∷ (4, 4) ∷ (6, 4) ∷ (7, 4) ∷ (8, 4) ∷ (9, 4) ∷ [])) ∷ (1, some (value (pos 0)), some (value (pos 0)), [], ((2, 4) ∷ (3, 7) ∷ [])) ∷ (48, none, none, ((0, 4) ∷ (1, 4) ∷ []), []) ∷ (1, some (value (pos 0)), none, ((1, 7) ∷ []), []) ∷ (32, none, none, ((0, 4) ∷ []), []) ∷ (0, none, none, [], []) ∷ (32, none, none, ((0, 4) ∷ []), []) ∷ (32, none, none, ((0, 4) ∷ []), []) ∷ (32, none, none, ((0, 4) ∷ []), []) ∷ (32, none, none, ((0, 4) ∷ []), []) ∷ []))
 
-abbrev script30 : Script
-script30 = script 10 20 25 1
+abbrev script38 : Script
+script38 = script 10 20 25 1
     ((pos 1 ∷ pos 0 ∷ [])
     ∷ (pos 1 ∷ pos 1 ∷ [])
     ∷ (pos 10 ∷ [])
@@ -2126,8 +2306,8 @@ script30 = script 10 20 25 1
     ∷ [])
     (0, 15, [], false, ((1, some (value (pos 63)), some (value (pos 63)), [], ((2, 14) ∷ [])) ∷ (1, some (value (pos 19)), some (value (pos 19)), [], ((2, 14) ∷ (3, 0) ∷ (4, 15) ∷ (5, 7) ∷ [])) ∷ (1, some (value (pos 82)), none, ((0, 14) ∷ (1, 14) ∷ []), ((3, 0) ∷ (4, 15) ∷ (5, 7) ∷ [])) ∷ (49, some (value (pos 3)), none, ((2, 0) ∷ (1, 0) ∷ []), []) ∷ (2, none, none, ((2, 15) ∷ (1, 15) ∷ []), []) ∷ (49, some (value (pos 3)), none, ((2, 7) ∷ (1, 7) ∷ []), []) ∷ (17, some (value (pos 0)), some (value (pos 0)), [], []) ∷ []))
 
-abbrev script31 : Script
-script31 = script 10 20 25 1
+abbrev script39 : Script
+script39 = script 10 20 25 1
     ((pos 1 ∷ pos 0 ∷ [])
     ∷ (pos 1 ∷ pos 1 ∷ [])
     ∷ (pos 5 ∷ pos 0 ∷ pos 22 ∷ [])
@@ -2215,8 +2395,8 @@ script31 = script 10 20 25 1
     (0, 13, [], false, ((1, some (value (pos 1)), some (value (pos 1)), [], ((2, 10) ∷ (5, 13) ∷ [])) ∷ (1, some (value (pos 0)), some (value (pos 0)), [], ((5, 13) ∷ [])) ∷ (1, some (value (pos 3)), none, ((0, 10) ∷ []), ((4, 11) ∷ [])) ∷ (0, none, none, [], []) ∷ (1, some (value (pos 9)), none, ((2, 11) ∷ []), ((5, 13) ∷ [])) ∷ (2, none, none, ((1, 13) ∷ (4, 13) ∷ (0, 13) ∷ []), []) ∷ (0, none, none, [], []) ∷ []))
 
 abbrev scripts : List Script
-scripts = script0 ∷ script1 ∷ script2 ∷ script3 ∷ script4 ∷ script5 ∷ script6 ∷ script7 ∷ script8 ∷ script9 ∷ script10 ∷ script11 ∷ script12 ∷ script13 ∷ script14 ∷ script15 ∷ script16 ∷ script17 ∷ script18 ∷ script19 ∷ script20 ∷ script21 ∷ script22 ∷ script23 ∷ script24 ∷ script25 ∷ script26 ∷ script27 ∷ script28 ∷ script29 ∷ script30 ∷ script31 ∷ []
+scripts = script0 ∷ script1 ∷ script2 ∷ script3 ∷ script4 ∷ script5 ∷ script6 ∷ script7 ∷ script8 ∷ script9 ∷ script10 ∷ script11 ∷ script12 ∷ script13 ∷ script14 ∷ script15 ∷ script16 ∷ script17 ∷ script18 ∷ script19 ∷ script20 ∷ script21 ∷ script22 ∷ script23 ∷ script24 ∷ script25 ∷ script26 ∷ script27 ∷ script28 ∷ script29 ∷ script30 ∷ script31 ∷ script32 ∷ script33 ∷ script34 ∷ script35 ∷ script36 ∷ script37 ∷ script38 ∷ script39 ∷ []
 
 pub all-played : Played scripts
 unfolding sum difference minimum maximum less clamp same sameNumber isZero cellOf codes readOf bareOf apply written size names up below empty remove each renew spent insert link cut lastLink disposeW unwatchedW unlinkN chain calm effects notify mark prop soil wakes evalBy settleW firstW updComputed updSignal updW sameSlots steady checkOn checkW pendingW freshW fresh logged rerun run flushOn store tallest newSignal newComputed newScope newEffect noWord word wholeCells commands commandOf after grown parse treeOf total reserve liveEffects asksOf isA unknown wrongNode goneNode allReadable badFormula tooHigh noRoom wrongDepth fewRows refusals first refusal perform performAny answer command shown answers afterAll depEnds subEnds lines Played
-all-played = (refl, refl, (refl, refl, (refl, refl, (refl, refl, (refl, refl, (refl, refl, (refl, refl, (refl, refl, (refl, refl, (refl, refl, (refl, refl, (refl, refl, (refl, refl, (refl, refl, (refl, refl, (refl, refl, (refl, refl, (refl, refl, (refl, refl, (refl, refl, (refl, refl, (refl, refl, (refl, refl, (refl, refl, (refl, refl, (refl, refl, (refl, refl, (refl, refl, (refl, refl, (refl, refl, (refl, refl, (refl, refl, tt))))))))))))))))))))))))))))))))
+all-played = (refl, refl, (refl, refl, (refl, refl, (refl, refl, (refl, refl, (refl, refl, (refl, refl, (refl, refl, (refl, refl, (refl, refl, (refl, refl, (refl, refl, (refl, refl, (refl, refl, (refl, refl, (refl, refl, (refl, refl, (refl, refl, (refl, refl, (refl, refl, (refl, refl, (refl, refl, (refl, refl, (refl, refl, (refl, refl, (refl, refl, (refl, refl, (refl, refl, (refl, refl, (refl, refl, (refl, refl, (refl, refl, (refl, refl, (refl, refl, (refl, refl, (refl, refl, (refl, refl, (refl, refl, (refl, refl, (refl, refl, tt))))))))))))))))))))))))))))))))))))))))

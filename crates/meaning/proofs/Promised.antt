@@ -12,20 +12,22 @@ use lib.IntN.{ℤ, pos}
 use lib.ListN.{length, drop}
 use borrow.Author.Tests.{leb-false, ltb-false}
 use Rattle.primitive.specs.declared.values.Value.{Value}
-use Rattle.meaning.specs.State.{St, Row, signal, computed, readable, deps, unclean, f1, f2, f17}
+use Rattle.meaning.specs.State.{St, Row, signal, computed, readable, deps, unclean, f1, f2, f17, up}
 use Rattle.meaning.specs.Setters.{withQueue, withDepth, withLog, setFl, setPend}
-use Rattle.meaning.specs.Links.{several, cut, unlink}
-use Rattle.meaning.specs.Marks.{Marks, marksOf, notify, prop, propagate}
-use Rattle.meaning.specs.Words.{Command, makeEffect, readOf, disposeOf, commandOf, nodeOf, ownerOf, formulaOf}
+use Rattle.meaning.specs.Links.{several, link, cut, unlink}
+use Rattle.meaning.specs.Marks.{Marks, marksOf, notify, prop, turns, propagate}
+use Rattle.meaning.specs.Words.{Command, makeEffect, readOf, disposeOf, batchEnd, commandOf, nodeOf, ownerOf, formulaOf}
 use Rattle.meaning.specs.Reserve.{total, reserveOf, reserve, liveLinks}
 use Rattle.meaning.specs.Refusals.{sightOf, asksOf}
 use Rattle.meaning.specs.WellFormed.{In, Once, WellFormed}
 use Rattle.meaning.specs.Reach.{Reached}
+use Rattle.meaning.specs.Order.{Walked}
 use Rattle.meaning.specs.Owners.{Below}
-use Rattle.meaning.specs.Moments.{flushing, Steps, Moment, begun, reserveFrom}
+use Rattle.meaning.specs.Engine.{store}
+use Rattle.meaning.specs.Moments.{flushing, Steps, here, later, links, Moment, begun, reserveFrom}
 use Rattle.meaning.specs.Evaluations.{reevaluations}
 use Rattle.meaning.specs.Commands.{number, perform, Answer, command, runs}
-use Rattle.meaning.specs.Outcome.{firstRow, flushes, MayRun, made, flushed, MustGo, disposed, owned as had}
+use Rattle.meaning.specs.Outcome.{firstRow, flushes, MayRun, made, flushed, MustGo, disposed, owned as had, Writes, madeBy, valueOf}
 use Rattle.meaning.proofs.Laws.{clash, either}
 use Rattle.meaning.proofs.Still.{given}
 use Rattle.meaning.proofs.Flush.{whos}
@@ -34,20 +36,22 @@ use Rattle.meaning.proofs.Stuck.{stack-full, queue-full}
 use Rattle.meaning.proofs.Inside.{nobody, static, rest-inside}
 use Rattle.meaning.proofs.Room.{room-at-rest}
 use Rattle.meaning.proofs.Frames.{others}
-use Rattle.meaning.proofs.Kept.{command-stays}
-use Rattle.meaning.proofs.Walking.{i-written, i-propagated, propagate-turns}
+use Rattle.meaning.proofs.Kept.{command-stays, perform-makes}
+use Rattle.meaning.proofs.Walking.{i-written, i-propagated, propagate-turns, propagate-inside}
 use Rattle.meaning.proofs.Made.{at-rest}
 use Rattle.meaning.proofs.Accepted.{command-kept}
 use Rattle.meaning.proofs.Owning.{below-high}
 use Rattle.meaning.proofs.Outcome.{new-row, command-told}
 use Rattle.meaning.proofs.Moments.{flushing-queue, drop-once, gone-passed}
 use Rattle.meaning.proofs.Marked.{marks-exactly}
+use Rattle.meaning.proofs.Ordered.{in-order}
 use Rattle.meaning.proofs.Disposed.{gone-below, below-stays, disposed as disposal, givenBack, reserve-back}
 use Rattle.meaning.proofs.Unwatched.{becomes-17, stays}
-use Rattle.meaning.proofs.Throughout.{few-live, moment-within}
+use Rattle.meaning.proofs.Throughout.{few-live, unstuck, linked-few, moment-within}
 use Rattle.meaning.proofs.Stepped.{perform-steps, begun-within}
 use Rattle.meaning.proofs.Cycle.{perform-counts}
 use Rattle.meaning.proofs.Valued.{read-valued}
+use Rattle.meaning.proofs.Written.{perform-worth, writes-store, stores-nothing, stores-pending, stores-flush, stores-later, end-flushes}
 
 -- n is gone, and has no links
 abbrev pub Bare : St → ℕ → Type 0
@@ -133,6 +137,32 @@ module _ (s : St) (rows : ℕ) (ws : List ℤ) (w : WellFormed s) (ok : command 
     pub reserve-comes-back : reserve t + total (λ n. givenBack (s .gone n) (t .gone n) (reserveOf (s .kind n) false (s .form n) (s .owner n))) (s .size) ≡ reserve s
     reserve-comes-back = reserve-back s t formed (disposal s rows w ws x is ok .keeps)
 
+  -- ---- a set or add, which writes x to the signal n
+  module _ (c : Command) (n : ℕ) (x : Value) (is : commandOf ws ≡ some c) (wr : Writes s c n x) where
+    stored : t ≡ store (withLog s []) n x
+    stored = ap (λ (z : Answer). z .st) (performed s rows ws c is ok .0) ∙ writes-store s wr
+
+    -- the old pending value: nothing happens
+    pub same-write-is-nothing : s .pend n ≡ x → t ≡ withLog s []
+    same-write-is-nothing e = stored ∙ stores-nothing (withLog s []) n x e
+
+    -- another: it is pending after, and every other pending value as it was
+    pub write-pends : (s .pend n ≡ x → ⊥) → t .pend ≡ up (s .pend) n x
+    write-pends e = ap (λ (z : St). z .pend) stored ∙ stores-pending (withLog s []) n x e
+
+    -- it is marked 17 and propagated from; that is all inside a batch
+    pub write-waits : (s .pend n ≡ x → ⊥) → (d : ℕ) → s .depth ≡ suc d → t ≡ propagate (setFl (setPend (withLog s []) n x) n f17) n
+    write-waits e d h = stored ∙ stores-later (withLog s []) n x e d h
+
+    -- at depth 0 what is queued then runs, one after the other
+    pub write-flushes : (s .pend n ≡ x → ⊥) → s .depth ≡ 0 → let p = propagate (setFl (setPend (withLog s []) n x) n f17) n in t ≡ flushing (length (p .queue)) p (p .queue)
+    write-flushes e h = stored ∙ stores-flush (withLog s []) n x e h (w .queued .at-depth-0 h)
+
+  -- and so at the end of the outermost batch
+  pub end-runs-queue : commandOf ws ≡ some batchEnd → s .depth ≡ 1 → t ≡ flushing (length (s .queue)) (withDepth (withLog s []) 0) (s .queue)
+  unfolding perform
+  end-runs-queue is h = ap (λ (z : Answer). z .st) (performed s rows ws batchEnd is ok .0) ∙ end-flushes (withLog s []) h
+
   -- ---- who goes
   -- of the nodes there were: what is disposed, and what effects with a row owned, with all below them; nothing else
   pub goes-exactly : (c : Command) → commandOf ws ≡ some c → (n : ℕ) → n < s .size → s .gone n ≡ false → (t .gone n ≡ true) ↔ MustGo s c (whos (a .rows)) n
@@ -153,6 +183,14 @@ module _ (s : St) (rows : ℕ) (ws : List ℤ) (w : WellFormed s) (ok : command 
   pub read-has-value : (n : ℤ) → commandOf ws ≡ some (readOf n) → (t .fl (nodeOf n) ≡ f1) × (a .val ≡ t .sto (nodeOf n))
   read-has-value n is = read-valued s rows w ws n is ok
 
+  -- the value is that of the table of commands, and the nodes are one more or as many
+  pub answers-value : (c : Command) → commandOf ws ≡ some c → (a .val ≡ valueOf s t c) × (t .size ≡ s .size + madeBy c)
+  answers-value c q =
+      let p = performed s rows ws c q ok .0 in (
+        ap (λ (z : Answer). z .val) p ∙ perform-worth s c ∙ ap (λ (z : Answer). valueOf s (z .st) c) (sym p),
+        ap (λ (z : Answer). z .st .size) p ∙ perform-makes (withLog s []) c,
+      )
+
   -- live links are at most the reserve, and that at most the slots: before and after the command (inside it: `room-at-every-moment`, `room-during`, `made-in-room`)
   pub room-kept : (liveLinks s ≤ reserve s) × (reserve s ≤ s .room .slots) × (liveLinks t ≤ reserve t) × (reserve t ≤ t .room .slots)
   room-kept = let x = room-at-rest s w in let y = room-at-rest t formed in (x .0, x .1, y .0, y .1)
@@ -170,6 +208,16 @@ module _ (s : St) (rows : ℕ) (ws : List ℤ) (w : WellFormed s) (ok : command 
         let n = moment-within _ t x m (command-kept true s rows ws w .stuck ∙ e) (reserveFrom s c) (b .0) in
         (few-live (reserveFrom s c) x n, n .reserved, b .1)
 
+    -- and right after a step that made a link, at most the reserve of that very moment
+    pub room-where-made : s .stuck ≡ false → (x : St) (d u v : ℕ) → Steps (begun (withLog s []) c) x → Steps (link x d u v) t → liveLinks x < liveLinks (link x d u v)
+        → liveLinks (link x d u v) ≤ reserve (link x d u v)
+    room-where-made e x d u v p q more =
+        let b = begun-within s rows w c (performed s rows ws c is ok .1) in
+        let free = command-kept true s rows ws w .stuck ∙ e in
+        let y = link x d u v in
+        let one : Steps x y = later here (links d u v) in
+        linked-few x d u v (reserveFrom s c) (moment-within _ y x (record { reached = p; left = one }) (unstuck y t q free) (reserveFrom s c) (b .0)) (unstuck y t q free) more
+
     -- ---- the cycle: raised once for each evaluation of the command that is not a first one; it wraps
     pub cycle-counts : s .cycle < 2 ^ 64 → t .cycle ≡ (s .cycle + reevaluations (withLog s []) c) % 2 ^ 64
     cycle-counts h = ap (λ (x : Answer). x .st .cycle) (performed s rows ws c is ok .0) ∙ perform-counts (withLog s []) c h
@@ -183,6 +231,10 @@ module _ (s : St) (w : WellFormed s) where
   -- what propagate marks is exactly what is reached by read links, from a node that is not clean
   pub marks-what-is-reached : (d : ℕ) → d < s .size → readable (s .kind d) ≡ true → unclean (s .fl d) ≡ true → (u : ℕ) → (propagate s d .fl u .pending ≡ true) ↔ ((s .fl u .pending ≡ true) ⊎ Reached s d u)
   marks-what-is-reached d h r un = marks-exactly (given s) (static s w) s d (rest-inside s w) h r un
+
+  -- and the order: it is the plain depth-first walk, which queues owners first (specs/Order; `walked-one`: there is no other)
+  pub walk-in-order : (d : ℕ) → d < s .size → readable (s .kind d) ≡ true → unclean (s .fl d) ≡ true → s .stuck ≡ false → Walked s (marksOf s) (s .subs d) (marksOf (propagate s d))
+  walk-in-order d h r un e = in-order s (turns s) (marksOf s) (s .subs d) [] (propagate-inside (given s) (static s w) s d (rest-inside s w) h r un .stuck ∙ e)
 
   -- where these walks start: signal n was written
   pub written-well-formed : (n : ℕ) (v : Value) → n < s .size → s .kind n ≡ signal → WellFormed (setFl (setPend s n v) n f17)

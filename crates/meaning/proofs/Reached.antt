@@ -57,6 +57,15 @@ module _ (s : St) (m : Marks) (u : ℕ) where
   mark-more : (n : ℕ) → m .fl n .pending ≡ true → mark s m u .fl n .pending ≡ true
   mark-more n e = either (eqb n u) (λ q. mark-here n (eqb-true n u q)) (λ q. mark-there n (eqb-false n u q) ∙ e)
 
+-- ---- the links to visit next, then the lists put aside
+abbrev pub all : List ℕ → List (List ℕ) → List ℕ
+all w [] = w
+all w (x ∷ st) = w ++ all x st
+
+pub all-append : (a w : List ℕ) (st : List (List ℕ)) → all (a ++ w) st ≡ a ++ all w st
+all-append a w [] = refl
+all-append a w (x ∷ st) = append-assoc a w (all x st)
+
 -- ---- on the way: f are the flags now, w the links still to visit
 -- a link that the walk may come by
 abbrev Front : St → ℕ → ℕ → Type 0
@@ -140,15 +149,7 @@ module _ (s : St) (d : ℕ) where
       go k (inl (inr i)) = inl (in-right k new w i)
       go k (inr c) = inr (dirt-on (s .sub k) c)
 
-  -- ---- the walk: the links to visit next, then the lists put aside
-  abbrev all : List ℕ → List (List ℕ) → List ℕ
-  all w [] = w
-  all w (x ∷ st) = w ++ all x st
-
-  all-append : (a w : List ℕ) (st : List (List ℕ)) → all (a ++ w) st ≡ a ++ all w st
-  all-append a w [] = refl
-  all-append a w (x ∷ st) = append-assoc a w (all x st)
-
+  -- ---- the walk
   abbrev Ends : Marks → Type 0
   Ends x = x .stuck ≡ false → Going s d (x .fl) []
 

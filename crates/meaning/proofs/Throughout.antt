@@ -117,6 +117,29 @@ link-room s d u v =
     (λ a. branch (Keeps s) (goesTo s (headOf (s .rest u)) d) (λ b. renew-room s u v (s .rest u))
     (λ b. branch (Keeps s) (isFrom s (lastOf (s .subs d)) u v) (λ c. room-same s) (λ c. insert-room s d u v (s .free) refl)))
 
+-- after it made one, they are at most the reserve of that moment
+inserted-few : (s : St) (d u v : ℕ) (ls : List ℕ) (n : ℕ) → s .free ≡ ls → Within n s → insert s d u v ls .stuck ≡ false → liveLinks (insert s d u v ls) ≤ reserve (insert s d u v ls)
+unfolding insert reserve spent
+inserted-few s d u v [] n q h e = clash refl e
+inserted-few s d u v (l ∷ ls) n q h e =
+    let no = or-right (s .stuck) (spent s) e in
+    let a = leb-false (reserve s + length (s .free)) (s .room .slots) (or-left (leb (reserve s + length (s .free)) (s .room .slots)) (ltb (s .room .slots) (reserve s)) no) in
+    let b : length (s .free) ≡ length (l ∷ ls) = ap length q in
+    let x = insert-room s d u v (l ∷ ls) q .1 e n h .apart in
+    omega arith
+
+pub linked-few : (s : St) (d u v : ℕ) (n : ℕ) → Within n s → link s d u v .stuck ≡ false → liveLinks s < liveLinks (link s d u v) → liveLinks (link s d u v) ≤ reserve (link s d u v)
+unfolding link renew
+linked-few s d u v n h =
+    let P : St → Type 0 = λ t. t .stuck ≡ false → liveLinks s < liveLinks t → liveLinks t ≤ reserve t in
+    branch P (goesTo s (lastOf (s .done u)) d) (λ a e m. absurd (omega arith))
+    (λ a. branch P (goesTo s (headOf (s .rest u)) d) (λ b. renewed (s .rest u))
+    (λ b. branch P (isFrom s (lastOf (s .subs d)) u v) (λ c e m. absurd (omega arith)) (λ c e m. inserted-few s d u v (s .free) n refl h e)))
+  where
+    renewed : (ls : List ℕ) → renew s u v ls .stuck ≡ false → liveLinks s < liveLinks (renew s u v ls) → liveLinks (renew s u v ls) ≤ reserve (renew s u v ls)
+    renewed [] e m = clash refl e
+    renewed (l ∷ ls) e m = absurd (omega arith)
+
 -- the reserve falls where a node is marked gone
 gone-room : (s : St) (x : ℕ) → Keeps s (setGone (setFl (rewind s x) x f0) x true)
 unfolding reserve
@@ -157,9 +180,11 @@ steps-room s t (later {t = x} p q) =
 pub steps-stick : (s t : St) → Steps s t → s .stuck ≡ true → t .stuck ≡ true
 steps-stick s t p = steps-room s t p .0
 
+pub unstuck : (s t : St) → Steps s t → t .stuck ≡ false → s .stuck ≡ false
+unstuck s t p e = either (s .stuck) (λ z. clash (steps-stick s t p z) e) (λ z. z)
+
 -- at every moment on the way to a state that is not stuck
 pub moment-within : (s t x : St) → Moment s t x → t .stuck ≡ false → (n : ℕ) → Within n s → Within n x
 moment-within s t x m e n h =
     let before = steps-room s x (m .reached) in
-    let after = steps-room x t (m .left) in
-    before .1 (either (x .stuck) (λ z. clash (after .0 z) e) (λ z. z)) n h
+    before .1 (unstuck x t (m .left) e) n h

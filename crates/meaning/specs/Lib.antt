@@ -13,6 +13,7 @@ pub mod Commands
 pub mod Cases
 pub mod Played
 pub mod Reach
+pub mod Order
 pub mod Owners
 pub mod Outcome
 pub mod Moments

@@ -6,11 +6,14 @@ use mathlib.Core.Option.{Option}
 use Prim.Native.Nat.{ℕ, _<_}
 use lib.Dec.{eqb}
 use lib.IntN.{ℤ, pos}
+use Rattle.primitive.specs.declared.values.Value.{Value}
+use Rattle.primitive.specs.Values.{value, sum}
 use Rattle.formula.specs.Trees.{Tree}
-use Rattle.meaning.specs.State.{St, effect, Row}
+use Rattle.meaning.specs.State.{St, effect, Row, nothing}
 use Rattle.meaning.specs.Reads.{evaluate}
 use Rattle.meaning.specs.Engine.{entered}
-use Rattle.meaning.specs.Words.{Command, makeSignal, makeComputed, makeEffect, makeScope, setTo, addTo, readOf, disposeOf, batchStart, batchEnd}
+use Rattle.meaning.specs.Words.{Command, makeSignal, makeComputed, makeEffect, makeScope, setTo, addTo, readOf, disposeOf, batchStart, batchEnd, nodeOf}
+use Rattle.meaning.specs.Commands.{number}
 use Rattle.meaning.specs.WellFormed.{In}
 use Rattle.meaning.specs.Owners.{Below, Owned}
 
@@ -40,3 +43,34 @@ pub data MayRun (s : St) (c : Command) (e : ℕ) : Type 0 where
 pub data MustGo (s : St) (c : Command) (ran : List ℕ) (n : ℕ) : Type 0 where
   disposed : (x : ℕ) → c ≡ disposeOf (pos x) → Below (s .owner) x n → MustGo s c ran n
   owned : (e : ℕ) → In e ran → Owned (s .owner) e n → MustGo s c ran n
+
+-- c writes x to the signal n: a set its value, an add the current value and its value
+pub data Writes (s : St) : Command → ℕ → Value → Type 0 where
+  sets : (n v : ℤ) → Writes s (setTo n v) (nodeOf n) (value v)
+  adds : (n v : ℤ) → Writes s (addTo n v) (nodeOf n) (sum (s .sto (nodeOf n)) (value v))
+
+-- how many nodes it makes
+abbrev pub madeBy : Command → ℕ
+madeBy (makeSignal v) = 1
+madeBy (makeComputed cs) = 1
+madeBy (makeEffect o cs) = 1
+madeBy (makeScope o) = 1
+madeBy (setTo n v) = 0
+madeBy (addTo n v) = 0
+madeBy (readOf n) = 0
+madeBy (disposeOf n) = 0
+madeBy batchStart = 0
+madeBy batchEnd = 0
+
+-- its value, from s to t: the number of the new node, what is read, else 0
+abbrev pub valueOf : St → St → Command → Value
+valueOf s t (makeSignal v) = number s
+valueOf s t (makeComputed cs) = number s
+valueOf s t (makeEffect o cs) = number s
+valueOf s t (makeScope o) = number s
+valueOf s t (setTo n v) = nothing
+valueOf s t (addTo n v) = nothing
+valueOf s t (readOf n) = t .sto (nodeOf n)
+valueOf s t (disposeOf n) = nothing
+valueOf s t batchStart = nothing
+valueOf s t batchEnd = nothing
