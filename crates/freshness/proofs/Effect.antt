@@ -278,7 +278,7 @@ module _ (g : Given) (st : Static g) (p : ℕ → Value) (ρ : Records) (e : ℕ
       let s₁ = setFl (rewind b e) e f6 in
       let ib : Inside g (Run g st e) b = others g (Run g st e) s i (raised (s .cycle)) (s .sto) (s .pend) (s .depth) (s .log) (s .stuck) in
       let i₁ : Inside g (Run g st e) s₁ = flags-inside g (Run g st e) (rewind b e) e (rewind-inside g (Run g st e) b e ib (inr refl)) (inr refl) f6 (λ q. false≢true q) in
-      let f₁ : Frame g (Near g st e) e s s₁ = frame-flags g (Near g st e) e s s₁ refl refl refl refl refl refl
+      let f₁ : Frame g (Near g st e) e s s₁ = frame-flags g (Near g st e) e s s₁ refl refl refl refl refl refl (λ l a h. refl)
       (λ m z. (up-other (s .done) e [] m (λ q. z (inr q)), up-other (s .rest) e (s .done e ++ s .rest e) m (λ q. z (inr q))))
       (λ m z q. up-other (s .fl) e f6 m (λ x. z (inr x)))
       (λ m q. up-other (s .fl) e f6 m (λ x. clash pd (ap (λ (z : Named). z .pending) (sym (ap (s .fl) x) ∙ q))) ∙ q) (λ m z q. refl) in

@@ -63,14 +63,14 @@ module _ (g : Given) (st : Static g) (p : ℕ → Value) (ρ : Records) (s : St)
   fore l lv z r =
       let a = reads-in (g .kind) (s .dep) l (deps s m) (subst (λ (n : ℕ). In l (deps s n)) z (i .lists .live-in-deps l lv)) r in
       let b = j .lists .deps-live l m (reads-sub (g .kind) (x .dep) l (deps x m) (subst (In l) (sym (same .links)) a)) in
-      (b .0, b .1, same .ends l a)
+      (b .0, b .1, same .ends l a .0)
 
   back : (l : ℕ) → x .live l ≡ true → x .sub l ≡ m → readable (g .kind (x .dep l)) ≡ true → (s .live l ≡ true) × (s .sub l ≡ m) × (x .dep l ≡ s .dep l)
   back l lv z r =
       let a = reads-in (g .kind) (x .dep) l (deps x m) (subst (λ (n : ℕ). In l (deps x n)) z (j .lists .live-in-deps l lv)) r in
       let c = subst (In l) (same .links) a in
       let b = i .lists .deps-live l m (reads-sub (g .kind) (s .dep) l (deps s m) c) in
-      (b .0, b .1, same .ends l c)
+      (b .0, b .1, same .ends l c .0)
 
   pub due-after : Due g p s m → Due g p x m
   due-after (inl d) = inl (mv .dirty m out ns d)

@@ -229,7 +229,7 @@ module _ (g : Given) (st : Static g) (p : ℕ → Value) (ρ : Records) (k : ℕ
         let s₁ = setFl (rewind b n) n f5 in
         let ib : Inside g (also X n) b = others g (also X n) s (wide g st k fr frs X s n i o h ab le) (raised (s .cycle)) (s .sto) (s .pend) (s .depth) (s .log) (s .stuck) in
         let i₁ : Inside g (also X n) s₁ = flags-inside g (also X n) (rewind b n) n (rewind-inside g (also X n) b n ib (inr refl)) (inr refl) f5 (λ q. refl) in
-        let f₁ : Frame g (Low g (suc n)) n s s₁ = frame-flags g (Low g (suc n)) n s s₁ refl refl refl refl refl refl
+        let f₁ : Frame g (Low g (suc n)) n s s₁ = frame-flags g (Low g (suc n)) n s s₁ refl refl refl refl refl refl (λ l a h. refl)
         (λ m z. (up-other (s .done) n [] m (off m z), up-other (s .rest) n (s .done n ++ s .rest n) m (off m z)))
         (λ m z q. flags m (off m z))
         (λ m q. flags m (λ x. clash un (ap unclean (sym (ap (s .fl) x) ∙ q))) ∙ q) (λ m z q. refl) in
@@ -258,7 +258,7 @@ module _ (g : Given) (st : Static g) (p : ℕ → Value) (ρ : Records) (k : ℕ
     begins-fine br fl e e′ none =
         let s₁ = setFl s n f5 in
         let i₁ : Inside g (also X n) s₁ = flags-inside g (also X n) s n (wide g st k fr frs X s n i o h ab le) (inr refl) f5 (λ q. refl) in
-        let f₁ : Frame g (Low g (suc n)) n s s₁ = frame-flags g (Low g (suc n)) n s s₁ refl refl refl refl refl refl (λ m z. (refl, refl))
+        let f₁ : Frame g (Low g (suc n)) n s s₁ = frame-flags g (Low g (suc n)) n s s₁ refl refl refl refl refl refl (λ l a h. refl) (λ m z. (refl, refl))
         (λ m z q. flags m (off m z))
         (λ m q. flags m (λ x. clash (ap (λ (z : Named). z .mutable) q) (ap (λ (z : Named). z .mutable) (ap (s .fl) x ∙ fl))) ∙ q) (λ m z q. refl) in
         let few : length (readLinks (g .kind) (s .dep) (s .rest n)) ≤ reads-of g st n = subst (λ (x : List ℕ). length (readLinks (g .kind) (s .dep) x) ≤ reads-of g st n) (sym e′) (omega arith) in

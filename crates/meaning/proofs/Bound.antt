@@ -58,40 +58,40 @@ module _ (s : St) (rows : ℕ) (w : WellFormed s) where
   by-same t k h e lo ke a n = let r = same-stay (s .kind) (withLog s []) t e refl k (h e lo ke a) in record { links = r .links; ends = r .ends }
 
   -- a flush from a state with the links of s
-  flushed : (x : St) → Inside g nobody x → x .log ≡ [] → x .dep ≡ s .dep → x .done ≡ s .done → x .rest ≡ s .rest → Bound s (flush x)
-  flushed x ix l d dn rs e lo ke a n =
+  flushed : (x : St) → Inside g nobody x → x .log ≡ [] → x .dep ≡ s .dep → x .ver ≡ s .ver → x .done ≡ s .done → x .rest ≡ s .rest → Bound s (flush x)
+  flushed x ix l d vr dn rs e lo ke a n =
       let f = flush-rows g st (x .queue) x ix refl in
       let log-is : flush x .log ≡ f .rows = f .logged ∙ ap (λ (z : List Row). z ++ f .rows) l in
       let r = f .reads e lo ke a (λ j. n (subst (λ (z : List Row). In e (whos z)) (sym log-is) j)) in
-      let z : SameReads (s .kind) (withLog s []) (flush x) e = cols (x .dep) d (x .done) dn (x .rest) rs (r .links) (r .ends) in
+      let z : SameReads (s .kind) (withLog s []) (flush x) e = cols (x .dep) d (x .ver) vr (x .done) dn (x .rest) rs (r .links) (r .ends) in
       let y = same-stay (s .kind) (withLog s []) (flush x) e refl (kinds x ix) z in
       record { links = y .links; ends = y .ends }
     where
       kinds : (x : St) → Inside g nobody x → flush x .kind ≡ s .kind
       kinds x ix = ap (λ (z : Given). z .kind) (flush-inside g st (x .queue) x ix refl .inside .same)
 
-      cols : (p : ℕ → ℕ) → p ≡ s .dep → (q : ℕ → List ℕ) → q ≡ s .done → (r : ℕ → List ℕ) → r ≡ s .rest
+      cols : (p : ℕ → ℕ) → p ≡ s .dep → (v : ℕ → ℕ) → v ≡ s .ver → (q : ℕ → List ℕ) → q ≡ s .done → (r : ℕ → List ℕ) → r ≡ s .rest
           → readLinks (s .kind) (flush x .dep) (flush x .done e ++ flush x .rest e) ≡ readLinks (s .kind) p (q e ++ r e)
-          → ((m : ℕ) → In m (readLinks (s .kind) p (q e ++ r e)) → flush x .dep m ≡ p m) → SameReads (s .kind) (withLog s []) (flush x) e
-      cols p ep q eq r er ls es =
+          → ((m : ℕ) → In m (readLinks (s .kind) p (q e ++ r e)) → (flush x .dep m ≡ p m) × (flush x .ver m ≡ v m)) → SameReads (s .kind) (withLog s []) (flush x) e
+      cols p ep v ev q eq r er ls es =
           let back : readLinks (s .kind) p (q e ++ r e) ≡ readLinks (s .kind) (s .dep) (s .done e ++ s .rest e) =
           ap (λ (z : ℕ → ℕ). readLinks (s .kind) z (q e ++ r e)) ep ∙ ap (λ (z : ℕ → List ℕ). readLinks (s .kind) (s .dep) (z e ++ r e)) eq ∙ ap (λ (z : ℕ → List ℕ). readLinks (s .kind) (s .dep) (s .done e ++ z e)) er in
-          record { links = ls ∙ back; ends = λ m j. es m (subst (In m) (sym back) j) ∙ ap (λ (z : ℕ → ℕ). z m) ep }
+          record { links = ls ∙ back; ends = λ m j. let y = es m (subst (In m) (sym back) j) in (y .0 ∙ ap (λ (z : ℕ → ℕ). z m) ep, y .1 ∙ ap (λ (z : ℕ → ℕ). z m) ev) }
 
   stored : (n : ℕ) (x : Value) → (n < s .size) × (aSignal (s .kind n) ≡ true) → Bound s (store (withLog s []) n x)
   unfolding store
   stored n x k =
-      branch (Bound s) (same (s .pend n) x) (λ e. by-same _ refl (λ m lo ke a. record { links = refl; ends = λ l j. refl }))
-      (λ e. branch (Bound s) (isNil (s .subs n)) (λ f. by-same _ refl (λ m lo ke a. record { links = refl; ends = λ l j. refl })) (λ f. go (s .depth)))
+      branch (Bound s) (same (s .pend n) x) (λ e. by-same _ refl (λ m lo ke a. record { links = refl; ends = λ l j. (refl, refl) }))
+      (λ e. branch (Bound s) (isNil (s .subs n)) (λ f. by-same _ refl (λ m lo ke a. record { links = refl; ends = λ l j. (refl, refl) })) (λ f. go (s .depth)))
     where
       go : (d : ℕ) → Bound s (flushAt (propagate (setFl (setPend (withLog s []) n x) n f17) n) d)
-      go zero = flushed _ (i-propagated g st (withLog s []) n x i (k .0) (is-signal s rows w (s .kind n) (k .1)) .inside) refl refl refl refl
-      go (suc d) = by-same _ refl (λ m lo ke a. record { links = refl; ends = λ l j. refl })
+      go zero = flushed _ (i-propagated g st (withLog s []) n x i (k .0) (is-signal s rows w (s .kind n) (k .1)) .inside) refl refl refl refl refl
+      go (suc d) = by-same _ refl (λ m lo ke a. record { links = refl; ends = λ l j. (refl, refl) })
 
   ends-bound : (d : ℕ) → Bound s (endAt (withLog s []) d)
-  ends-bound zero = by-same _ refl (λ m lo ke a. record { links = refl; ends = λ l j. refl })
-  ends-bound (suc zero) = flushed (withDepth (withLog s []) 0) (others g nobody (withLog s []) i (s .cycle) (s .sto) (s .pend) 0 [] (s .stuck)) refl refl refl refl
-  ends-bound (suc (suc d)) = by-same _ refl (λ m lo ke a. record { links = refl; ends = λ l j. refl })
+  ends-bound zero = by-same _ refl (λ m lo ke a. record { links = refl; ends = λ l j. (refl, refl) })
+  ends-bound (suc zero) = flushed (withDepth (withLog s []) 0) (others g nobody (withLog s []) i (s .cycle) (s .sto) (s .pend) 0 [] (s .stuck)) refl refl refl refl refl
+  ends-bound (suc (suc d)) = by-same _ refl (λ m lo ke a. record { links = refl; ends = λ l j. (refl, refl) })
 
   perform-bound : (c : Command) → NoneHolds (table true v (some c)) → Bound s (perform (withLog s []) c .st)
   unfolding table perform wrongNode goneNode badFormula tooHigh noRoom asksOf newSignal newComputed newScope
@@ -109,7 +109,7 @@ module _ (s : St) (rows : ℕ) (w : WellFormed s) where
       let k = taken s rows w anOwner n (h 2) in
       let r = dispose-inside g st (withLog s []) (nodeOf n) i (k .0) (not-true (readable (s .kind (nodeOf n))) (k .1)) in
       by-same _ (ap (λ (z : Given). z .kind) (r .inside .same)) (r .reads)
-  perform-bound batchStart h = by-same _ refl (λ m lo ke a. record { links = refl; ends = λ l j. refl })
+  perform-bound batchStart h = by-same _ refl (λ m lo ke a. record { links = refl; ends = λ l j. (refl, refl) })
   perform-bound batchEnd h = ends-bound (s .depth)
 
   any-bound : (c : Option Command) → NoneHolds (table true v c) → Bound s (performAny (withLog s []) c .st)
@@ -126,4 +126,4 @@ links-bound s rows ws w = go (refusal true (sightOf s rows) ws) (accepted-exactl
     go : (r : ℕ) → (answer r s ws .code ≡ 0 → NoneHolds (table true (sightOf s rows) (commandOf ws))) → (e : ℕ) → e < s .size → s .kind e ≡ effect → answer r s ws .st .gone e ≡ false → (In e (whos (answer r s ws .rows)) → ⊥)
         → ReadsStay s (answer r s ws .st) e
     go zero h = any-bound s rows w (commandOf ws) (h refl)
-    go (suc r) h = λ e lo ke a n. record { links = refl; ends = λ l j. refl }
+    go (suc r) h = λ e lo ke a n. record { links = refl; ends = λ l j. (refl, refl) }

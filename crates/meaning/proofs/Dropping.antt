@@ -160,6 +160,7 @@ module _ (g : Given) (X : Set) (s : St) (n : ℕ) (i : Inside g X s) (xn : X n) 
 pub record Dropped (N : Set) (u : ℕ) (s t : St) : Type 0 where
   pub dep : t .dep ≡ s .dep
   pub sub : t .sub ≡ s .sub
+  pub ver : t .ver ≡ s .ver
   pub lists : (m : ℕ) → (N m → ⊥) → (m ≡ u → ⊥) → (t .done m ≡ s .done m) × (t .rest m ≡ s .rest m)
   pub flags : (m : ℕ) → (N m → ⊥) → (t .fl m ≡ s .fl m) × (t .gone m ≡ s .gone m)
   pub fate : (m : ℕ) → (t .fl m ≡ s .fl m) ⊎ (t .subs m ≡ [])
@@ -172,6 +173,7 @@ dropped-same : (N : Set) (u : ℕ) (s : St) → Dropped N u s s
 dropped-same N u s = record {
   dep = refl;
   sub = refl;
+  ver = refl;
   lists = λ m a b. (refl, refl);
   flags = λ m a. (refl, refl);
   fate = λ m. inl refl;
@@ -185,6 +187,7 @@ dropped-wider : (N M : Set) (u v : ℕ) (s t : St) → ((m : ℕ) → N m → M 
 dropped-wider N M u v s t h e p = record {
   dep = p .dep;
   sub = p .sub;
+  ver = p .ver;
   lists = λ m a b. p .lists m (λ x. a (h m x)) (λ q. b (q ∙ e (λ x. a (subst M (sym q) x))));
   flags = λ m a. p .flags m (λ x. a (h m x));
   fate = p .fate;
@@ -201,6 +204,7 @@ dropped-then N u s t x p q =
     record {
       dep = q .dep ∙ p .dep;
       sub = q .sub ∙ p .sub;
+      ver = q .ver ∙ p .ver;
       lists = λ m f h. (q .lists m f h .0 ∙ p .lists m f h .0, q .lists m f h .1 ∙ p .lists m f h .1);
       flags = λ m f. (q .flags m f .0 ∙ p .flags m f .0, q .flags m f .1 ∙ p .flags m f .1);
       fate = λ m. go m (p .fate m) (q .fate m);
@@ -217,13 +221,14 @@ dropped-then N u s t x p q =
 
 -- a node of N without subscribers changes flags, mark and lists
 dropped-reset : (N : Set) (u n : ℕ) (s : St) (f : Named) (b : ℕ → Bool) → N n → s .subs n ≡ [] → ((m : ℕ) → (m ≡ n → ⊥) → b m ≡ s .gone m)
-    → (t : St) → t .dep ≡ s .dep → t .sub ≡ s .sub → t .subs ≡ s .subs → t .free ≡ s .free → t .stuck ≡ s .stuck → t .fl ≡ up (s .fl) n f → t .gone ≡ b
+    → (t : St) → t .dep ≡ s .dep → t .sub ≡ s .sub → t .ver ≡ s .ver → t .subs ≡ s .subs → t .free ≡ s .free → t .stuck ≡ s .stuck → t .fl ≡ up (s .fl) n f → t .gone ≡ b
     → t .done ≡ up (s .done) n [] → t .rest ≡ up (s .rest) n (s .done n ++ s .rest n) → Dropped N u s t
-dropped-reset N u n s f b nn none-here same t e₁ e₂ e₃ e₄ e₅ e₆ e₇ e₈ e₉ =
+dropped-reset N u n s f b nn none-here same t e₁ e₂ ev e₃ e₄ e₅ e₆ e₇ e₈ e₉ =
     let z = ap length e₄ in
     record {
       dep = e₁;
       sub = e₂;
+      ver = ev;
       lists = λ m a c. (ap (λ (x : ℕ → List ℕ). x m) e₈ ∙ up-other (s .done) n [] m (away m a), ap (λ (x : ℕ → List ℕ). x m) e₉ ∙ up-other (s .rest) n (s .done n ++ s .rest n) m (away m a));
       flags = λ m a. (ap (λ (x : ℕ → Named). x m) e₆ ∙ up-other (s .fl) n f m (away m a), ap (λ (x : ℕ → Bool). x m) e₇ ∙ same m (away m a));
       fate = λ m. either (eqb m n) (λ e. inr (ap (λ (x : ℕ → List ℕ). x m) e₃ ∙ ap (s .subs) (eqb-true m n e) ∙ none-here)) (λ e. inl (ap (λ (x : ℕ → Named). x m) e₆ ∙ up-other (s .fl) n f m (eqb-false m n e)));
@@ -371,7 +376,7 @@ module _ (g : Given) (st : Static g) where
         let gone : t .gone x ≡ true = d .flags x outside .1 ∙ up-same (s .gone) x true in
         let done : t .done x ≡ [] = p .done ∙ up-same (s .done) x [] in
         let it : Inside g X t = let-out g X t x (p .inside) (rests-gone g (t .queue) (t .dep) (t .sub) x (t .fl x) (t .gone x) (t .done x) (t .rest x) (t .subs x) r flag gone done (p .rest) bare) in
-        let first : Dropped (Under g x) v s a = dropped-reset (Under g x) v x s f0 (up (s .gone) x true) (under-same g st x) e (λ m q. up-other (s .gone) x true m q) a refl refl refl refl refl refl refl refl refl in
+        let first : Dropped (Under g x) v s a = dropped-reset (Under g x) v x s f0 (up (s .gone) x true) (under-same g st x) e (λ m q. up-other (s .gone) x true m q) a refl refl refl refl refl refl refl refl refl refl in
         let then : Dropped (Under g x) v a t = dropped-wider (Strict x) (Under g x) x v a t (λ m z. z .0) (λ z. absurd (z (under-same g st x))) d in
         let begins : Spares nobody s a = spares-reset s a x (λ m q. ((up-other (s .done) x [] m q, up-other (s .rest) x (s .done x ++ s .rest x) m q), up-other (s .fl) x f0 m q, up-other (s .gone) x true m q)) (inl (up-same (s .gone) x true)) in
         let spared : Spares nobody s t = spares-over s a t x begins (inl (up-same (s .gone) x true)) (p .spares) in
@@ -459,7 +464,7 @@ module _ (g : Given) (st : Static g) where
               of-gone = λ q x. clash rd (ap readable q);
               queued = λ j x. clash x (p .inside .gone-kind d h rd);
             } in
-            let first : Dropped (Under g d) v s a = dropped-reset (Under g d) v d s f17 (s .gone) (under-same g st d) e (λ m q. refl) a refl refl refl refl refl refl refl refl refl in
+            let first : Dropped (Under g d) v s a = dropped-reset (Under g d) v d s f17 (s .gone) (under-same g st d) e (λ m q. refl) a refl refl refl refl refl refl refl refl refl refl in
             let then : Dropped (Under g d) v a t = dropped-wider (Strict d) (Under g d) d v a t (λ m z. z .0) (λ z. absurd (z (under-same g st d))) dr in
             let down : Fallen a d = inr (up-same (s .fl) d f17) in
             let begins : Spares nobody s a = spares-reset s a d (λ m q. ((up-other (s .done) d [] m q, up-other (s .rest) d (s .done d ++ s .rest d) m q), up-other (s .fl) d f17 m q, refl)) down in
@@ -481,6 +486,7 @@ module _ (g : Given) (st : Static g) where
     cut-dropped = record {
       dep = refl;
       sub = refl;
+      ver = refl;
       lists = λ m a b. (up-other (s .done) (s .sub l) (remove l (s .done (s .sub l))) m b, up-other (s .rest) (s .sub l) (remove l (s .rest (s .sub l))) m b);
       flags = λ m a. (refl, refl);
       fate = λ m. inl refl;
@@ -620,7 +626,7 @@ module _ (g : Given) (st : Static g) where
   purge-reads X s t u e p h k x ne a = go (p .spares .safe e ne)
     where
       go : SameLists s t e ⊎ Fallen t e → SameReads (g .kind) s t e
-      go (inl l) = reads-lists (g .kind) s t e l (λ n j. ap (λ (z : ℕ → ℕ). z n) (p .dropped .dep))
+      go (inl l) = reads-lists (g .kind) s t e l (λ n j. (ap (λ (z : ℕ → ℕ). z n) (p .dropped .dep), ap (λ (z : ℕ → ℕ). z n) (p .dropped .ver)))
       go (inr f) = not-fallen X t e (p .inside) h k x a f
 
   -- ---- dispose, at rest: x loses what it owns and reads, then the link to its owner
@@ -663,6 +669,9 @@ module _ (g : Given) (st : Static g) where
 
     dep-same : emptied .dep ≡ s .dep
     dep-same = purged .dropped .dep
+
+    ver-same : emptied .ver ≡ s .ver
+    ver-same = purged .dropped .ver
 
     same-subs : emptied .subs x ≡ s .subs x
     same-subs = purged .dropped .subs x outside
@@ -784,19 +793,19 @@ module _ (g : Given) (st : Static g) where
       -- the owner keeps its read links
       cut-reads : (m : ℕ) → SameReads (g .kind) t (cut t l) m
       unfolding cut
-      cut-reads m = record { links = ap (readLinks (g .kind) (t .dep)) (cut-deps g X t l (purged .inside) (linked .0) m) ∙ reads-remove (g .kind) (t .dep) l (deps t m) not-read; ends = λ k j. refl }
+      cut-reads m = record { links = ap (readLinks (g .kind) (t .dep)) (cut-deps g X t l (purged .inside) (linked .0) m) ∙ reads-remove (g .kind) (t .dep) l (deps t m) not-read; ends = λ k j. (refl, refl) }
 
       fallen-cut : (m : ℕ) → Fallen t m → Fallen (cut t l) m
       unfolding cut
       fallen-cut m f = f
 
-      after : (z : St) → Inside g nobody z → Spares nobody (cut t l) z → z .dep ≡ cut t l .dep → Kept z
-      after z i′ sp e m h k a = go (spared .safe m (λ w. w)) (sp .safe m (λ w. w))
+      after : (z : St) → Inside g nobody z → Spares nobody (cut t l) z → z .dep ≡ cut t l .dep → z .ver ≡ cut t l .ver → Kept z
+      after z i′ sp e ev m h k a = go (spared .safe m (λ w. w)) (sp .safe m (λ w. w))
         where
           go : SameLists s t m ⊎ Fallen t m → SameLists (cut t l) z m ⊎ Fallen z m → SameReads (g .kind) s z m
           go (inl p) (inl q) =
-              reads-then (g .kind) s t z m (reads-lists (g .kind) s t m p (λ n j. ap (λ (w : ℕ → ℕ). w n) dep-same))
-              (reads-then (g .kind) t (cut t l) z m (cut-reads m) (reads-lists (g .kind) (cut t l) z m q (λ n j. ap (λ (w : ℕ → ℕ). w n) e)))
+              reads-then (g .kind) s t z m (reads-lists (g .kind) s t m p (λ n j. (ap (λ (w : ℕ → ℕ). w n) dep-same, ap (λ (w : ℕ → ℕ). w n) ver-same)))
+              (reads-then (g .kind) t (cut t l) z m (cut-reads m) (reads-lists (g .kind) (cut t l) z m q (λ n j. (ap (λ (w : ℕ → ℕ). w n) e, ap (λ (w : ℕ → ℕ). w n) ev))))
           go (inl p) (inr f) = not-fallen nobody z m i′ h k (λ w. w) a f
           go (inr f) q = not-fallen nobody z m i′ h k (λ w. w) a (sp .fallen m (fallen-cut m f))
 
@@ -827,7 +836,7 @@ module _ (g : Given) (st : Static g) where
           (λ a. branch P (isNil (c .subs d))
           (λ q. subst (λ (y : ℕ). P (unwatchedW (unlinkN K) c y)) (sym (linked .1))
           (branch P (c .fl x .mutable) (λ m. clash m (ap (λ (z : Named). z .mutable) flag))
-          (λ m. let w = dispose-bare K (unlinkN K) (unlink-inside K) nobody c x x i-left h r alone (λ n y z. z) (in-time c) in (w .0, w .1 .stuck, after _ (w .0) (w .2) (w .1 .dep), λ m f. w .1 .flags m f .1, left-after _ _ _ (w .1) (w .2)))))
+          (λ m. let w = dispose-bare K (unlinkN K) (unlink-inside K) nobody c x x i-left h r alone (λ n y z. z) (in-time c) in (w .0, w .1 .stuck, after _ (w .0) (w .2) (w .1 .dep) (w .1 .ver), λ m f. w .1 .flags m f .1, left-after _ _ _ (w .1) (w .2)))))
           (λ q. absurd (isNil-false (c .subs d) q (subst (λ (y : ℕ). c .subs y ≡ []) (sym (linked .1)) alone))))
           (λ a. clash (linked .0) a)
 
@@ -864,7 +873,7 @@ module _ (g : Given) (st : Static g) where
             }
           where
             first : (m : ℕ) → (Fallen emptied m → SameReads (g .kind) s emptied m) → SameLists s emptied m ⊎ Fallen emptied m → SameReads (g .kind) s emptied m
-            first m f (inl p) = reads-lists (g .kind) s emptied m p (λ n j. ap (λ (w : ℕ → ℕ). w n) dep-same)
+            first m f (inl p) = reads-lists (g .kind) s emptied m p (λ n j. (ap (λ (w : ℕ → ℕ). w n) dep-same, ap (λ (w : ℕ → ℕ). w n) ver-same))
             first m f (inr z) = f z
         go (l ∷ ls) e =
             let w = gone-too l ls e in

@@ -63,6 +63,7 @@ pub record Frame (g : Given) (N : Set) (c : ℕ) (s t : St) : Type 0 where
   pub subs : (m : ℕ) → (readable (g .kind m) ≡ true → c ≤ rank m) → t .subs m ≡ s .subs m
   pub gone : (m : ℕ) → readable (g .kind m) ≡ false → t .gone m ≡ s .gone m
   pub links : (l : ℕ) → s .live l ≡ true → (N (s .sub l) → ⊥) → (t .live l ≡ true) × (t .dep l ≡ s .dep l) × (t .sub l ≡ s .sub l)
+  pub ver : (l : ℕ) → s .live l ≡ true → (N (s .sub l) → ⊥) → t .ver l ≡ s .ver l
   pub held : (l : ℕ) → s .live l ≡ true → (N (s .sub l) → ⊥) → s .fl (s .dep l) ≡ f1 → t .fl (s .dep l) ≡ f1
   pub pending : (m : ℕ) → (N m → ⊥) → (g .kind m ≡ signal → ⊥) → t .fl m .pending ≡ s .fl m .pending
   pub calm : (m : ℕ) → (N m → ⊥) → (g .kind m ≡ signal → ⊥) → s .fl m .pending ≡ false → t .fl m ≡ s .fl m
@@ -73,13 +74,14 @@ pub record Frame (g : Given) (N : Set) (c : ℕ) (s t : St) : Type 0 where
 module _ (g : Given) (N : Set) (c : ℕ) where
   -- a step that moves no link
   pub frame-flags : (s t : St) → t .subs ≡ s .subs → t .gone ≡ s .gone → t .live ≡ s .live → t .dep ≡ s .dep → t .sub ≡ s .sub → t .stuck ≡ s .stuck
-      → ((m : ℕ) → (N m → ⊥) → (t .done m ≡ s .done m) × (t .rest m ≡ s .rest m)) → ((m : ℕ) → (N m → ⊥) → (g .kind m ≡ signal → ⊥) → t .fl m ≡ s .fl m)
+      → ((l : ℕ) → s .live l ≡ true → (N (s .sub l) → ⊥) → t .ver l ≡ s .ver l) → ((m : ℕ) → (N m → ⊥) → (t .done m ≡ s .done m) × (t .rest m ≡ s .rest m)) → ((m : ℕ) → (N m → ⊥) → (g .kind m ≡ signal → ⊥) → t .fl m ≡ s .fl m)
       → ((m : ℕ) → s .fl m ≡ f1 → t .fl m ≡ f1) → ((m : ℕ) → (N m → ⊥) → (g .kind m ≡ signal → ⊥) → t .sto m ≡ s .sto m) → Frame g N c s t
-  frame-flags s t e₁ e₂ e₃ e₄ e₅ e₆ ls fs cl vs = record {
+  frame-flags s t e₁ e₂ e₃ e₄ e₅ e₆ vr ls fs cl vs = record {
     lists = ls;
     subs = λ m h. ap (λ (x : ℕ → List ℕ). x m) e₁;
     gone = λ m h. ap (λ (x : ℕ → Bool). x m) e₂;
     links = λ l a h. (ap (λ (x : ℕ → Bool). x l) e₃ ∙ a, ap (λ (x : ℕ → ℕ). x l) e₄, ap (λ (x : ℕ → ℕ). x l) e₅);
+    ver = vr;
     held = λ l a h q. cl (s .dep l) q;
     pending = λ m h k. ap (λ (x : Named). x .pending) (fs m h k);
     calm = λ m h k p. fs m h k;
@@ -89,7 +91,7 @@ module _ (g : Given) (N : Set) (c : ℕ) where
   }
 
   pub frame-same : (s : St) → Frame g N c s s
-  frame-same s = frame-flags s s refl refl refl refl refl refl (λ m h. (refl, refl)) (λ m h k. refl) (λ m q. q) (λ m h k. refl)
+  frame-same s = frame-flags s s refl refl refl refl refl refl (λ l a h. refl) (λ m h. (refl, refl)) (λ m h k. refl) (λ m q. q) (λ m h k. refl)
 
   -- a link of t whose subscriber is outside N is one of s
   pub was-link : (s t : St) → Slots g s → Slots g t → Frame g N c s t → (l u : ℕ) → t .live l ≡ true → t .sub l ≡ u → (N u → ⊥) → (s .live l ≡ true) × (s .sub l ≡ u) × (t .dep l ≡ s .dep l)
@@ -108,6 +110,7 @@ module _ (g : Given) (N : Set) (c : ℕ) where
         let y = p .links l lv h in
         let z = q .links l (y .0) (λ n. h (subst N (y .2) n)) in
         (z .0, z .1 ∙ y .1, z .2 ∙ y .2);
+    ver = λ l lv h. let y = p .links l lv h in q .ver l (y .0) (λ n. h (subst N (y .2) n)) ∙ p .ver l lv h;
     held = λ l lv h e.
         let y = p .links l lv h in
         subst (λ (n : ℕ). x .fl n ≡ f1) (y .1) (q .held l (y .0) (λ n. h (subst N (y .2) n)) (subst (λ (n : ℕ). t .fl n ≡ f1) (sym (y .1)) (p .held l lv h e)));
@@ -138,6 +141,7 @@ frame-wider g N M c b s t h le f = record {
   subs = λ m a. f .subs m (λ r. let x = a r in omega arith);
   gone = f .gone;
   links = λ l lv a. f .links l lv (λ n. a (h (s .sub l) n));
+  ver = λ l lv a. f .ver l lv (λ n. a (h (s .sub l) n));
   held = λ l lv a. f .held l lv (λ n. a (h (s .sub l) n));
   pending = λ m a. f .pending m (λ n. a (h m n));
   calm = λ m a. f .calm m (λ n. a (h m n));
@@ -152,7 +156,7 @@ frame-wider g N M c b s t h le f = record {
 module _ (g : Given) (st : Static g) where
   -- a node outside N keeps its read links
   pub frame-reads : (X N : Set) (c : ℕ) (s t : St) (e : ℕ) → Inside g X s → Frame g N c s t → (N e → ⊥) → SameReads (g .kind) s t e
-  frame-reads X N c s t e i f h = reads-lists (g .kind) s t e (f .lists e h) (λ l j. let x = i .lists .deps-live l e j in f .links l (x .0) (λ z. h (subst N (x .1) z)) .1)
+  frame-reads X N c s t e i f h = reads-lists (g .kind) s t e (f .lists e h) (λ l j. let x = i .lists .deps-live l e j in (f .links l (x .0) (λ z. h (subst N (x .1) z)) .1, f .ver l (x .0) (λ z. h (subst N (x .1) z))))
 
   -- what a node outside N pays for stays as it is
   pub paid-frame : (X : Set) (N : Set) (c : ℕ) (s t : St) (n : ℕ) → Inside g X s → Inside g X t → Frame g N c s t → n < g .size → (N n → ⊥) → Paid g s n → Paid g t n
@@ -210,6 +214,7 @@ module _ (g : Given) (st : Static g) where
         subs = λ m a. d .subs m (λ z. strict-low m z a);
         gone = λ m r. d .flags m (λ z. clash rn (z .0 .high r .0)) .1;
         links = λ l lv a. (alive l lv a, ap (λ (x : ℕ → ℕ). x l) (d .dep), ap (λ (x : ℕ → ℕ). x l) (d .sub));
+        ver = λ l lv a. ap (λ (x : ℕ → ℕ). x l) (d .ver);
         held = λ l lv a e. keeps l lv a e (d .fate (s .dep l));
         pending = λ m a q. ap (λ (x : Named). x .pending) (d .flags m (λ z. not-low m a q z) .0);
         calm = λ m a q e. d .flags m (λ z. not-low m a q z) .0;

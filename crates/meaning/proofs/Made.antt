@@ -208,7 +208,7 @@ module _ (s : St) (w : WellFormed s) (k : Kind) (t : Tree) (b : Named) (v : Valu
           queue = refl;
           depth = refl;
           reads = λ m h. stay-then s M x m (new-reads s w k t (some p) b v fits m h)
-              (record { links = reads-now m; ends = λ c z. up-other (s .dep) l n c (away c (i .lists .deps-live c m (reads-sub (g .kind) (s .dep) c (deps M m) z) .0)) });
+              (record { links = reads-now m; ends = λ c z. let far = away c (i .lists .deps-live c m (reads-sub (g .kind) (s .dep) c (deps M m) z) .0) in (up-other (s .dep) l n c far, up-other (s .ver) l 0 c far) });
         }
       where
         in-x : (m : ℕ) → also (also (also nobody n) n) p m → also (also nobody n) p m

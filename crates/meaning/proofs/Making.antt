@@ -250,7 +250,7 @@ module _ (s : St) (w : WellFormed s) (k : Kind) (t : Tree) (o : Option ℕ) (b :
   pub new-reads : (m : ℕ) → m < s .size → ReadsStay s N m
   new-reads m h = record {
     links = ap (readLinks (N .kind) (s .dep)) (deps-other m (λ q. omega arith)) ∙ reads-same (s .kind) (N .kind) (s .size) kind-old (s .dep) (deps s m) (λ l j. below l (w .lists .deps-live l m j .0) .0);
-    ends = λ l j. refl;
+    ends = λ l j. (refl, refl);
   }
 
   pub not-queued : In (s .size) (s .queue) → ⊥

@@ -167,6 +167,7 @@ module _ (g : Given) (st : Static g) where
       renewed i s v d (l ∷ ls) e q =
           let t = renew s u v (l ∷ ls) in
           let f : Frame g (Near u) (rank u) s t = frame-flags g (Near u) u s t refl refl refl refl refl refl
+          (λ k lv a. up-other (s .ver) l v k (λ z. a (inr (ap (s .sub) z ∙ d .inside .lists .deps-live l u (in-right l (s .done u) (s .rest u) (subst (In l) (sym e) (inl refl))) .1))))
           (λ n a. (up-other (s .done) u (s .done u ++ l ∷ []) n (λ z. a (inr z)), up-other (s .rest) u ls n (λ z. a (inr z)))) (λ n a k. refl) (λ n z. z) (λ n a k. refl) in
           let a = ap length (up-same (s .done) u (s .done u ++ l ∷ [])) in
           let b = length-append (s .done u) (l ∷ []) in
@@ -220,6 +221,7 @@ module _ (g : Given) (st : Static g) where
               subs = λ n a. up-other (s .subs) m (s .subs m ++ l ∷ []) n (λ q. let x = m-low .1 in let y = a (ap (λ (k : ℕ). readable (g .kind k)) q ∙ m-low .0) in omega arith);
               gone = λ n a. refl;
               links = λ k lv a. (up-other (s .live) l true k (away k lv) ∙ lv, up-other (s .dep) l m k (away k lv), up-other (s .sub) l u k (away k lv));
+              ver = λ k lv a. up-other (s .ver) l v k (away k lv);
               held = λ k lv a q. q;
               pending = λ n a q. refl;
               calm = λ n a q z. refl;

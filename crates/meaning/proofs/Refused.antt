@@ -6,12 +6,13 @@ use mathlib.Core.List.{List, [], _∷_}
 use mathlib.Core.Option.{Option, some}
 use Prim.Native.Nat.{ℕ, zero, suc, _+_, _<_}
 use native.Mathlib.Omega.{arith}
+use lib.Dec.{leb}
 use lib.IntN.{ℤ}
 use lib.ListN.{getD}
 use borrow.Author.Tests.{eq-eqb, not-true}
 use Rattle.meaning.specs.State.{St, nothing}
-use Rattle.meaning.specs.Words.{Command, batchEnd, commandOf}
-use Rattle.meaning.specs.Refusals.{sightOf, asksOf, unknown, wrongNode, goneNode, badFormula, tooHigh, noRoom, wrongDepth, table, first, refusal}
+use Rattle.meaning.specs.Words.{Command, batchStart, batchEnd, commandOf}
+use Rattle.meaning.specs.Refusals.{sightOf, asksOf, mostDepth, unknown, wrongNode, goneNode, badFormula, tooHigh, noRoom, wrongDepth, table, first, refusal}
 use Rattle.meaning.specs.WellFormed.{WellFormed}
 use Rattle.meaning.specs.Commands.{runs, answer, command}
 use Rattle.meaning.proofs.Laws.{false≢true, clash}
@@ -114,20 +115,40 @@ module _ (well : Bool) (s : St) (rows : ℕ) (ws : List ℤ) where
       go h true e = absurd (h (tells .0 e))
       go h false e = refl
 
+  -- of a start or an end only the depth is asked
+  abbrev batch : Bool → Command
+  batch true = batchStart
+  batch false = batchEnd
+
+  by-depth : well ≡ true → (b : Bool) → commandOf ws ≡ some (batch b) → wrongDepth (sightOf s rows) (batch b) ≡ true → command well s rows ws .code ≡ 8
+  unfolding table unknown wrongNode goneNode badFormula tooHigh noRoom wrongDepth asksOf
+  by-depth a b q e = given-exactly 7 .1 (subst (λ (o : Option Command). FirstHolds (table well (sightOf s rows) o) 7) (sym q) (e, λ j l. before b j l))
+    where
+      before : (b : Bool) (j : ℕ) → j < 7 → getD (table well (sightOf s rows) (some (batch b))) j false ≡ false
+      before b zero l = ap not a
+      before true (suc zero) l = refl
+      before true (suc (suc zero)) l = refl
+      before true (suc (suc (suc zero))) l = refl
+      before true (suc (suc (suc (suc zero)))) l = refl
+      before true (suc (suc (suc (suc (suc zero))))) l = refl
+      before true (suc (suc (suc (suc (suc (suc zero)))))) l = refl
+      before false (suc zero) l = refl
+      before false (suc (suc zero)) l = refl
+      before false (suc (suc (suc zero))) l = refl
+      before false (suc (suc (suc (suc zero)))) l = refl
+      before false (suc (suc (suc (suc (suc zero))))) l = refl
+      before false (suc (suc (suc (suc (suc (suc zero)))))) l = refl
+      before b (suc (suc (suc (suc (suc (suc (suc j))))))) l = absurd (omega arith)
+
   -- an end at depth 0 is refused by 8: over lists it would be stuck (`no-end`)
   pub end-refused : well ≡ true → commandOf ws ≡ some batchEnd → s .depth ≡ 0 → command well s rows ws .code ≡ 8
-  unfolding table unknown wrongNode goneNode badFormula tooHigh noRoom wrongDepth asksOf
-  end-refused a q e = given-exactly 7 .1 (subst (λ (o : Option Command). FirstHolds (table well (sightOf s rows) o) 7) (sym q) (eq-eqb (s .depth) 0 e, λ j l. before j l))
-    where
-      before : (j : ℕ) → j < 7 → getD (table well (sightOf s rows) (some batchEnd)) j false ≡ false
-      before zero l = ap not a
-      before (suc zero) l = refl
-      before (suc (suc zero)) l = refl
-      before (suc (suc (suc zero))) l = refl
-      before (suc (suc (suc (suc zero)))) l = refl
-      before (suc (suc (suc (suc (suc zero))))) l = refl
-      before (suc (suc (suc (suc (suc (suc zero)))))) l = refl
-      before (suc (suc (suc (suc (suc (suc (suc j))))))) l = absurd (omega arith)
+  unfolding wrongDepth asksOf
+  end-refused a q e = by-depth a false q (eq-eqb (s .depth) 0 e)
+
+  -- and a start at depth 64
+  pub start-refused : well ≡ true → commandOf ws ≡ some batchStart → s .depth ≡ mostDepth → command well s rows ws .code ≡ 8
+  unfolding wrongDepth asksOf
+  start-refused a q e = by-depth a true q (ap (leb mostDepth) e)
 
   -- refused: value 0, runs 0, everything unchanged
   pub refused-unchanged : (command well s rows ws .code ≡ 0 → ⊥)

@@ -287,7 +287,7 @@ module _ (g : Given) (st : Static g) where
           flags-inside g (Run e) (rewind c e) e (rewind-inside g (Run e) c e ic (inr refl)) (inr refl) f6 (λ q. false≢true q)
 
       f-begun : Frame g (Near g st e) (rank e) s (begun s)
-      f-begun = frame-flags g (Near g st e) e s (begun s) refl refl refl refl refl refl
+      f-begun = frame-flags g (Near g st e) e s (begun s) refl refl refl refl refl refl (λ l a h. refl)
           (λ m z. (up-other (s .done) e [] m (λ q. z (inr q)), up-other (s .rest) e (s .done e ++ s .rest e) m (λ q. z (inr q))))
           (λ m z q. up-other (s .fl) e f6 m (λ x. z (inr x)))
           (λ m q. kept m q) (λ m z q. refl)
@@ -410,7 +410,7 @@ module _ (g : Given) (st : Static g) where
       calmed c =
           let t = setFl s′ e f2 in
           let it : Inside g (Run e) t = flags-inside g (Run e) s′ e popped (inr refl) f2 (λ z. false≢true z) in
-          record { inside = let-out g nobody t e it (at c); stuck = refl; reads = λ m h k a. inl (record { links = refl; ends = λ l j. refl }); disposed = λ z. absurd (z refl); spared = λ m r f. refl }
+          record { inside = let-out g nobody t e it (at c); stuck = refl; reads = λ m h k a. inl (record { links = refl; ends = λ l j. (refl, refl) }); disposed = λ z. absurd (z refl); spared = λ m r f. refl }
         where
           at : (s .gone e ≡ true) ⊎ (s .gone e ≡ false) → Rests g (setFl s′ e f2) e
           at (inl a) = record {
@@ -495,7 +495,7 @@ module _ (g : Given) (st : Static g) where
               go a (watching x y) = clash d (ap (λ (z : Named). z .dirty) x)
               go a (pushed x y) = clash d (ap (λ (z : Named). z .dirty) x)
               go a (pending x y z) = clash d (ap (λ (z : Named). z .dirty) x)
-              go a (dirty x y z) = rerun-on s′ refl refl (λ m k. record { links = refl; ends = λ l j. refl }) (λ m r. refl) (rerun-inside s′ popped (lies a) (ap (λ (z : Named). z .pending) x) (ones .0))
+              go a (dirty x y z) = rerun-on s′ refl refl (λ m k. record { links = refl; ends = λ l j. (refl, refl) }) (λ m r. refl) (rerun-inside s′ popped (lies a) (ap (λ (z : Named). z .pending) x) (ones .0))
 
           at-pending : s .fl e .pending ≡ true → RunOn (elim (check s′ e .yes) [ true ↦ rerun (check s′ e .st) e | false ↦ setFl (check s′ e .st) e f2 ])
           at-pending p = either (s .gone e) (λ a. clash p (ap (λ (z : Named). z .pending) (was .queued (subst (In e) (sym is) (inl refl)) a))) (λ a. go a (was .of-effect ke a))

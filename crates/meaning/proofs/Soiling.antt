@@ -145,6 +145,7 @@ shallow-frame g X N c b s t d i j f le lt r nc = record {
   subs = λ m a. f .subs m (λ q. let x = a q in omega arith);
   gone = f .gone;
   links = f .links;
+  ver = f .ver;
   held = λ l lv a e. shallow-clean g X t d j (s .dep l) (f .held l lv a e);
   pending = λ m a k. same-pending m (soil-turn (t .sub) (t .subs d) (t .fl) m) ∙ f .pending m a k;
   calm = λ m a k e. turn-calm g X t d j (t .sub) (t .subs d) m (t .fl m) _ (f .pending m a k ∙ e) (soil-turn (t .sub) (t .subs d) (t .fl) m) ∙ f .calm m a k e;

@@ -141,7 +141,7 @@ module _ (g : Given) (st : Static g) where
 
       f-stored : Frame g (Low g (suc n)) n s stored
       f-stored =
-          let b : Frame g (Low g (suc n)) n (out .st) stored = frame-flags g (Low g (suc n)) n (out .st) stored refl refl refl refl refl refl (λ m z. (refl, refl))
+          let b : Frame g (Low g (suc n)) n (out .st) stored = frame-flags g (Low g (suc n)) n (out .st) stored refl refl refl refl refl refl (λ l a h. refl) (λ m z. (refl, refl))
           (λ m z q. up-other (out .st .fl) n f1 m (λ e. z (ap (g .kind) e ∙ kn, omega arith))) (λ m q. up-by (out .st .fl) n f1 (λ (x : Named). x ≡ f1) m (λ e. refl) (λ e. q))
           (λ m z q. up-other (out .st .sto) n (out .val) m (λ e. z (ap (g .kind) e ∙ kn, omega arith))) in
           frame-then g (Low g (suc n)) n s (out .st) stored (i .lists) (went .inside .lists) f-evaluated b
@@ -195,7 +195,7 @@ module _ (g : Given) (st : Static g) where
       i-first = flags-inside g (also X n) s n wide (inr refl) f5 (λ q. refl)
 
       f-first : g .kind n ≡ computed → s .fl n ≡ f0 → Frame g (Low g (suc (rank n))) (rank n) s begun-first
-      f-first kn fl = frame-flags g (Low g (suc (rank n))) n s begun-first refl refl refl refl refl refl (λ m z. (refl, refl))
+      f-first kn fl = frame-flags g (Low g (suc (rank n))) n s begun-first refl refl refl refl refl refl (λ l a h. refl) (λ m z. (refl, refl))
           (λ m z q. up-other (s .fl) n f5 m (λ x. z (ap (g .kind) x ∙ kn, omega arith)))
           (λ m q. up-other (s .fl) n f5 m (λ x. clash (ap (λ (z : Named). z .mutable) q) (ap (λ (z : Named). z .mutable) (ap (s .fl) x ∙ fl))) ∙ q)
           (λ m z q. refl)
@@ -226,7 +226,7 @@ module _ (g : Given) (st : Static g) where
       f-begun : g .kind n ≡ computed → (s .fl n ≡ f1 → ⊥) → Frame g (Low g (suc (rank n))) (rank n) s begun-update
       f-begun kn un =
           let off : (m : ℕ) → (Low g (suc (rank n)) m → ⊥) → m ≡ n → ⊥ = λ m z x. z (ap (g .kind) x ∙ kn, omega arith) in
-          frame-flags g (Low g (suc (rank n))) n s begun-update refl refl refl refl refl refl
+          frame-flags g (Low g (suc (rank n))) n s begun-update refl refl refl refl refl refl (λ l a h. refl)
           (λ m z. (up-other (s .done) n [] m (off m z), up-other (s .rest) n (s .done n ++ s .rest n) m (off m z)))
           (λ m z q. up-other (s .fl) n f5 m (off m z))
           (λ m q. up-other (s .fl) n f5 m (λ x. un (sym (ap (s .fl) x) ∙ q)) ∙ q)
@@ -256,7 +256,7 @@ module _ (g : Given) (st : Static g) where
           record {
             inside = let-out g X t n it
                 (rests-clean g st (t .queue) (t .dep) (t .sub) n (t .fl n) (t .gone n) (t .done n) (t .rest n) (t .subs n) h (ap readable kn) (up-same (s .fl) n f1) (i .gone-kind n h (ap readable kn)) (r .tail) (r .few));
-            frame = frame-flags g (Low g (suc (rank n))) n s t refl refl refl refl refl refl (λ m z. (refl, refl)) (λ m z q. up-other (s .fl) n f1 m (λ x. q (ap (g .kind) x ∙ kn)))
+            frame = frame-flags g (Low g (suc (rank n))) n s t refl refl refl refl refl refl (λ l a h. refl) (λ m z. (refl, refl)) (λ m z q. up-other (s .fl) n f1 m (λ x. q (ap (g .kind) x ∙ kn)))
                 (λ m q. up-by (s .fl) n f1 (λ (x : Named). x ≡ f1) m (λ e. refl) (λ e. q))
                 (λ m z q. up-other (s .sto) n (s .pend n) m (λ x. q (ap (g .kind) x ∙ kn)));
             clean = up-same (s .fl) n f1;
@@ -411,7 +411,7 @@ module _ (g : Given) (st : Static g) where
           let x = setFl t n (withPending (t .fl n) false) in
           let ix : Inside g (also X n) x = flags-inside g (also X n) t n (widen g X (also X n) t (λ m z. inl z) (w .inside)) (inr refl) (withPending (t .fl n) false) (λ q. clash q refl) in
           let now : x .fl n ≡ f1 = up-same (t .fl) n (withPending (t .fl n) false) ∙ flag in
-          let f : Frame g (Low g (suc (rank n))) (rank n) t x = frame-flags g (Low g (suc (rank n))) n t x refl refl refl refl refl refl (λ m z. (refl, refl))
+          let f : Frame g (Low g (suc (rank n))) (rank n) t x = frame-flags g (Low g (suc (rank n))) n t x refl refl refl refl refl refl (λ l a h. refl) (λ m z. (refl, refl))
           (λ m z q. up-other (t .fl) n _ m (λ e. z (ap (g .kind) e ∙ kn, omega arith)))
           (λ m q. up-by (t .fl) n (withPending (t .fl n) false) (λ (z : Named). z ≡ f1) m (λ e. flag) (λ e. q)) (λ m z q. refl) in
           record {
