@@ -6,7 +6,7 @@ use Prim.Native.Nat.{ℕ, zero, suc, _<_, _≤_}
 use native.Mathlib.Omega.{arith}
 use lib.IntN.{ℤ}
 use Rattle.reads.specs.Tables.{State, rankOf}
-use Rattle.reads.specs.Ring.{startOf, checkedBy, ringN}
+use Rattle.reads.specs.Ring.{startOf, checkedBy, refreshedBy, ringN}
 use Rattle.reads.specs.Read.{refreshed, checked, evaluatedFor}
 use Rattle.meaning.specs.State.{St, readable, deps}
 use Rattle.meaning.specs.Reads.{settleW, checkW, fresh, settle, check, evaluate}
@@ -60,17 +60,27 @@ module _ (g : Given) (st : Static g) (ran : List ℕ) (C : List ℤ) where
   second-ring (suc b) = let k = second-ring b in record { refreshes = refreshes-at b k; answers = answers-at b k }
 
   -- ---- what callers cite; the bound over words is the rank of the node, over lists the number of nodes
-  -- a node brought up to date
+  -- a node brought up to date, whatever bound is enough
+  pub refreshed-within : (X : Set) (x : State) (s : St) (n : ℕ) → Inside g X s → Open g st X s → n < g .size → readable (g .kind n) ≡ true → Above g st X n → s .stuck ≡ false → Sees ran x C s
+      → (a : ℕ) → rankOf n ≤ a → Sees ran (refreshedBy C (ringN C a) x n) C (settle s n)
+  unfolding rankOf ringN
+  refreshed-within X x s n i o h r ab free q a le = let e = size-is g st X s i in second-ring (s .size) .refreshes (suc a) (suc n) (omega arith) (omega arith) X x s n i o h r ab (omega arith) free q
+
   pub refreshed-sees : (X : Set) (x : State) (s : St) (n : ℕ) → Inside g X s → Open g st X s → n < g .size → readable (g .kind n) ≡ true → Above g st X n → s .stuck ≡ false → Sees ran x C s
       → Sees ran (refreshed C x n) C (settle s n)
-  unfolding refreshed rankOf ringN
-  refreshed-sees X x s n i o h r ab free q = let e = size-is g st X s i in second-ring (s .size) .refreshes (suc n) (suc n) (omega arith) (omega arith) X x s n i o h r ab (omega arith) free q
+  unfolding refreshed
+  refreshed-sees X x s n i o h r ab free q = refreshed-within X x s n i o h r ab free q (rankOf n) (omega arith)
 
   -- the dirty check of u
+  pub checked-within : (X : Set) (u : ℕ) → u < g .size → ((m : ℕ) → X m → readable (g .kind m) ≡ true → u ≤ m) → ((d : ℕ) → d < g .size → Goes g d u → X d → ⊥)
+      → (x : State) (s : St) → Inside g X s → Open g st X s → s .stuck ≡ false → (deps s u ≡ [] → ⊥) → Sees ran x C s → (a : ℕ) → rankOf u ≤ a → Tells ran C (checkedBy C (ringN C a) x u) (check s u)
+  unfolding rankOf
+  checked-within X u h above apart x s i o free ne q a le = let e = size-is g st X s i in checks (s .size) (second-ring (s .size)) a u (omega arith) (omega arith) X h above apart x s i o free ne q
+
   pub checked-tells : (X : Set) (u : ℕ) → u < g .size → ((m : ℕ) → X m → readable (g .kind m) ≡ true → u ≤ m) → ((d : ℕ) → d < g .size → Goes g d u → X d → ⊥)
       → (x : State) (s : St) → Inside g X s → Open g st X s → s .stuck ≡ false → (deps s u ≡ [] → ⊥) → Sees ran x C s → Tells ran C (checked C x u) (check s u)
-  unfolding checked rankOf
-  checked-tells X u h above apart x s i = let e = size-is g st X s i in checks (s .size) (second-ring (s .size)) u u (omega arith) (omega arith) X h above apart x s i
+  unfolding checked
+  checked-tells X u h above apart x s i o free ne q = checked-within X u h above apart x s i o free ne q (rankOf u) (omega arith)
 
   -- the evaluation of u, which has begun
   pub evaluated-sees : (X : Set) (u : ℕ) → X u → u < g .size → hasForm (g .kind u) ≡ true → ((m : ℕ) → X m → readable (g .kind m) ≡ true → u ≤ m)
