@@ -5,8 +5,9 @@ use mathlib.Core.List.{List, []}
 use Prim.Native.Nat.{ℕ, zero, suc, _<_, _≤_}
 use native.Mathlib.Omega.{arith}
 use lib.IntN.{ℤ}
+use Rattle.formula.specs.Legal.{mostNesting}
 use Rattle.reads.specs.Tables.{State, rankOf}
-use Rattle.reads.specs.Ring.{startOf, checkedBy, refreshedBy, ringN}
+use Rattle.reads.specs.Ring.{startOf, checkedBy, evaluatedBy, refreshedBy, ringN}
 use Rattle.reads.specs.Read.{refreshed, checked, evaluatedFor}
 use Rattle.meaning.specs.State.{St, readable, deps}
 use Rattle.meaning.specs.Reads.{settleW, checkW, fresh, settle, check, evaluate}
@@ -83,11 +84,17 @@ module _ (g : Given) (st : Static g) (ran : List ℕ) (C : List ℤ) where
   checked-tells X u h above apart x s i o free ne q = checked-within X u h above apart x s i o free ne q (rankOf u) (omega arith)
 
   -- the evaluation of u, which has begun
+  pub evaluated-within : (X : Set) (u : ℕ) → X u → u < g .size → hasForm (g .kind u) ≡ true → ((m : ℕ) → X m → readable (g .kind m) ≡ true → u ≤ m)
+      → (x : State) (s : St) → During g st X u s 0 s → s .stuck ≡ false → Sees ran x C s → (a : ℕ) → rankOf u ≤ a → (let e = evaluatedBy C (ringN C a) u mostNesting x (startOf x u) in
+      Sees ran (e .after) C (evaluate s u .st) × During g st X u s (reads-of g st u) (evaluate s u .st) × (e .value ≡ evaluate s u .val))
+  unfolding rankOf
+  evaluated-within X u xu h f above x s d free q a le =
+      let e = size-is g st X s (d .inside) in
+      evaluation-sim g st u (fresh (s .size)) (freshens-at (s .size) u (omega arith)) (ringN C a) ran C (second-ring (s .size) .refreshes a u (omega arith) (omega arith)) X u xu h above s (d .inside) (omega arith) free C (startOf x u) x s
+      (form-laid g st ran C X x s u (d .inside) h f q) d q
+
   pub evaluated-sees : (X : Set) (u : ℕ) → X u → u < g .size → hasForm (g .kind u) ≡ true → ((m : ℕ) → X m → readable (g .kind m) ≡ true → u ≤ m)
       → (x : State) (s : St) → During g st X u s 0 s → s .stuck ≡ false → Sees ran x C s
       → Sees ran (evaluatedFor C x u .after) C (evaluate s u .st) × During g st X u s (reads-of g st u) (evaluate s u .st) × (evaluatedFor C x u .value ≡ evaluate s u .val)
-  unfolding evaluatedFor rankOf
-  evaluated-sees X u xu h f above x s d free q =
-      let e = size-is g st X s (d .inside) in
-      evaluation-sim g st u (fresh (s .size)) (freshens-at (s .size) u (omega arith)) (ringN C u) ran C (second-ring (s .size) .refreshes u u (omega arith) (omega arith)) X u xu h above s (d .inside) (omega arith) free C (startOf x u) x s
-      (form-laid g st ran C X x s u (d .inside) h f q) d q
+  unfolding evaluatedFor
+  evaluated-sees X u xu h f above x s d free q = evaluated-within X u xu h f above x s d free q (rankOf u) (omega arith)
