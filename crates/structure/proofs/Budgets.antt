@@ -8,7 +8,7 @@ use lib.IntN.{ℤ}
 use lib.ListN.{length, replicate}
 use Rattle.primitive.specs.declared.flags.Named.{Named}
 use Rattle.primitive.specs.Queue.{count, reversedFrom}
-use Rattle.primitive.specs.Words.{SUB, link, linkRows, nodeRows}
+use Rattle.primitive.specs.Words.{SUB, DEPS, node, link, linkRows, nodeRows}
 use Rattle.links.specs.Free.{slots}
 use Rattle.links.specs.Ring.{purgedBy, disposedBy, unlinkedN}
 use Rattle.links.specs.Table.{Tab}
@@ -17,7 +17,7 @@ use Rattle.marks.specs.Notify.{climbed}
 use Rattle.marks.specs.Shallow.{shallowFrom}
 use Rattle.marks.specs.Walks.{place, walked}
 use Rattle.formula.specs.Legal.{mostNesting}
-use Rattle.reads.specs.Ring.{startOf, checkedBy, evaluatedBy, refreshedBy, ringN}
+use Rattle.reads.specs.Ring.{startOf, depsBy, evaluatedBy, refreshedBy, ringN}
 use Rattle.reads.specs.Tables.{State, rankOf}
 use Rattle.operations.specs.Log.{ranTo}
 use Rattle.operations.specs.Runs.{flushedFrom, cleared}
@@ -65,7 +65,7 @@ pub record NeverUsedUp (g : Given) (st : Static g) : Type 1 where
       → (bound : ℕ) → rankOf n ≤ bound → Sees ran (refreshedBy C (ringN C bound) x n) C (settle s n)
   pub checks : (X : Set) (ran : List ℕ) (C : List ℤ) (u : ℕ) → u < g .size → ((m : ℕ) → X m → readable (g .kind m) ≡ true → u ≤ m) → ((d : ℕ) → d < g .size → Goes g d u → X d → ⊥)
       → (x : State) (s : St) → Inside g X s → Open g st X s → s .stuck ≡ false → (deps s u ≡ [] → ⊥) → Sees ran x C s
-      → (bound : ℕ) → rankOf u ≤ bound → Tells ran C (checkedBy C (ringN C bound) x u) (check s u)
+      → (bound turns : ℕ) → rankOf u ≤ bound → linkRows (x .links) ≤ turns → Tells ran C (depsBy C (ringN C bound) u turns x (node (x .nodes) u DEPS)) (check s u)
   pub evaluates : (X : Set) (ran : List ℕ) (C : List ℤ) (u : ℕ) → X u → u < g .size → hasForm (g .kind u) ≡ true → ((m : ℕ) → X m → readable (g .kind m) ≡ true → u ≤ m)
       → (x : State) (s : St) → During g st X u s 0 s → s .stuck ≡ false → Sees ran x C s → (bound : ℕ) → rankOf u ≤ bound → (let e = evaluatedBy C (ringN C bound) u mostNesting x (startOf x u) in
       Sees ran (e .after) C (evaluate s u .st) × (e .value ≡ evaluate s u .val))

@@ -7,7 +7,8 @@ use native.Mathlib.Omega.{arith}
 use lib.IntN.{ℤ}
 use Rattle.formula.specs.Legal.{mostNesting}
 use Rattle.reads.specs.Tables.{State, rankOf}
-use Rattle.reads.specs.Ring.{startOf, checkedBy, evaluatedBy, refreshedBy, ringN}
+use Rattle.primitive.specs.Words.{DEPS, linkRows, node}
+use Rattle.reads.specs.Ring.{startOf, depsBy, checkedBy, evaluatedBy, refreshedBy, ringN}
 use Rattle.reads.specs.Read.{refreshed, checked, evaluatedFor}
 use Rattle.meaning.specs.State.{St, readable, deps}
 use Rattle.meaning.specs.Reads.{settleW, checkW, fresh, settle, check, evaluate}
@@ -33,10 +34,16 @@ module _ (g : Given) (st : Static g) (ran : List ℕ) (C : List ℤ) where
   freshens-at : (b j : ℕ) → j ≤ b → Freshens g st j (fresh b)
   freshens-at b j le = freshens-less g st j b (fresh b) le (fresh-inside g st b)
 
-  -- ---- the check of u
+  -- ---- the check of u, on a budget of dependencies
+  checks-on : (b : ℕ) → Alike b → (a u : ℕ) → u ≤ a → u ≤ b → (X : Set) → u < g .size → ((m : ℕ) → X m → readable (g .kind m) ≡ true → u ≤ m) → ((d : ℕ) → d < g .size → Goes g d u → X d → ⊥)
+      → (x : State) (s : St) → Inside g X s → Open g st X s → s .stuck ≡ false → (deps s u ≡ [] → ⊥) → Sees ran x C s → (j : ℕ) → linkRows (x .links) ≤ j
+      → Tells ran C (depsBy C (ringN C a) u j x (node (x .nodes) u DEPS)) (checkW (fresh b) s u)
+  checks-on b k a u la lb X hu above apart = check-tells g st ran C u (ringN C a) (fresh b) (freshens-at b u lb) (k .answers a u la lb) X hu above apart
+
   checks : (b : ℕ) → Alike b → (a u : ℕ) → u ≤ a → u ≤ b → (X : Set) → u < g .size → ((m : ℕ) → X m → readable (g .kind m) ≡ true → u ≤ m) → ((d : ℕ) → d < g .size → Goes g d u → X d → ⊥)
       → (x : State) (s : St) → Inside g X s → Open g st X s → s .stuck ≡ false → (deps s u ≡ [] → ⊥) → Sees ran x C s → Tells ran C (checkedBy C (ringN C a) x u) (checkW (fresh b) s u)
-  checks b k a u la lb X hu above apart = check-tells g st ran C u (ringN C a) (fresh b) (freshens-at b u lb) (k .answers a u la lb) X hu above apart
+  unfolding checkedBy
+  checks b k a u la lb X hu above apart x s i o free ne q = checks-on b k a u la lb X hu above apart x s i o free ne q (linkRows (x .links)) (omega arith)
 
   -- ---- one bound more
   refreshes-at : (b : ℕ) → Alike b → (a j : ℕ) → j ≤ a → j ≤ suc b → Refreshes g st ran C j (ringN C a) (fresh (suc b))
@@ -74,14 +81,15 @@ module _ (g : Given) (st : Static g) (ran : List ℕ) (C : List ℤ) where
 
   -- the dirty check of u
   pub checked-within : (X : Set) (u : ℕ) → u < g .size → ((m : ℕ) → X m → readable (g .kind m) ≡ true → u ≤ m) → ((d : ℕ) → d < g .size → Goes g d u → X d → ⊥)
-      → (x : State) (s : St) → Inside g X s → Open g st X s → s .stuck ≡ false → (deps s u ≡ [] → ⊥) → Sees ran x C s → (a : ℕ) → rankOf u ≤ a → Tells ran C (checkedBy C (ringN C a) x u) (check s u)
+      → (x : State) (s : St) → Inside g X s → Open g st X s → s .stuck ≡ false → (deps s u ≡ [] → ⊥) → Sees ran x C s → (a j : ℕ) → rankOf u ≤ a → linkRows (x .links) ≤ j
+      → Tells ran C (depsBy C (ringN C a) u j x (node (x .nodes) u DEPS)) (check s u)
   unfolding rankOf
-  checked-within X u h above apart x s i o free ne q a le = let e = size-is g st X s i in checks (s .size) (second-ring (s .size)) a u (omega arith) (omega arith) X h above apart x s i o free ne q
+  checked-within X u h above apart x s i o free ne q a j le many = let e = size-is g st X s i in checks-on (s .size) (second-ring (s .size)) a u (omega arith) (omega arith) X h above apart x s i o free ne q j many
 
   pub checked-tells : (X : Set) (u : ℕ) → u < g .size → ((m : ℕ) → X m → readable (g .kind m) ≡ true → u ≤ m) → ((d : ℕ) → d < g .size → Goes g d u → X d → ⊥)
       → (x : State) (s : St) → Inside g X s → Open g st X s → s .stuck ≡ false → (deps s u ≡ [] → ⊥) → Sees ran x C s → Tells ran C (checked C x u) (check s u)
-  unfolding checked
-  checked-tells X u h above apart x s i o free ne q = checked-within X u h above apart x s i o free ne q (rankOf u) (omega arith)
+  unfolding checked checkedBy
+  checked-tells X u h above apart x s i o free ne q = checked-within X u h above apart x s i o free ne q (rankOf u) (linkRows (x .links)) (omega arith) (omega arith)
 
   -- the evaluation of u, which has begun
   pub evaluated-within : (X : Set) (u : ℕ) → X u → u < g .size → hasForm (g .kind u) ≡ true → ((m : ℕ) → X m → readable (g .kind m) ≡ true → u ≤ m)
