@@ -11,7 +11,8 @@ use borrow.Author.Tests.{lt-ltb, le-ltb}
 use Rattle.primitive.specs.declared.flags.Named.{Named}
 use Rattle.marks.specs.Fields.{flagsOf, pending, hasOnly, without}
 use Rattle.reads.specs.Tables.{State, Told, told}
-use Rattle.reads.specs.Ring.{Ring, updatedBy, settledBy, pendingBy, dependencyBy, checkedBy}
+use Rattle.primitive.specs.Words.{DEPS, linkRows, node}
+use Rattle.reads.specs.Ring.{Ring, updatedBy, settledBy, pendingBy, dependencyBy, depsBy}
 use Rattle.meaning.specs.State.{St, Kind, signal, computed, effect, scope, readable, deps, f1, f17, f33}
 use Rattle.meaning.specs.Links.{several}
 use Rattle.meaning.specs.Marks.{shallow}
@@ -184,9 +185,10 @@ module _ (g : Given) (st : Static g) (ran : List ℕ) (C : List ℤ) where
               unchanged = λ e. subst (λ (t : St). Sees ran (dependencyBy C r x d .after) C t × Mid ds t) (sym steady-is) (subst (λ (b : Bool). Sees ran (dependencyBy C r x d .after) C (pick b .st)) e (w .1), mid-after);
             }
 
-    pub check-tells : (x : State) (s : St) → Inside g X s → Open g st X s → s .stuck ≡ false → (deps s u ≡ [] → ⊥) → Sees ran x C s → Tells ran C (checkedBy C r x u) (checkW fr s u)
-    check-tells x s i o free some q =
+    pub check-tells : (x : State) (s : St) → Inside g X s → Open g st X s → s .stuck ≡ false → (deps s u ≡ [] → ⊥) → Sees ran x C s → (j : ℕ) → linkRows (x .links) ≤ j
+        → Tells ran C (depsBy C r u j x (node (x .nodes) u DEPS)) (checkW fr s u)
+    check-tells x s i o free some q j many =
         let w = inside-held g X s st i in
         check-sim C r u fr ran C (Mid (deps s u)) (deps s u) (λ t p. p .lists) (λ t p. low-at g st X t u (p .inside) hu) (λ t l p j. lower (deps s u) t l p j) (λ y t l j p z e m. asks (deps s u) t l p j m y z)
         x s (record { inside = i; opened = o; free = free; lists = refl }) q some
-        (most-below (s .room .slots) (deps s u) (w .lists .deps-once u) (λ l j. w .lists .live-slot l (w .lists .deps-live l u j .0)))
+        (most-below (s .room .slots) (deps s u) (w .lists .deps-once u) (λ l j. w .lists .live-slot l (w .lists .deps-live l u j .0))) j many

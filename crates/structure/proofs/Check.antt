@@ -12,7 +12,7 @@ use Rattle.primitive.specs.Words.{DEPS, NEXT-DEP, link, linkRows, node}
 use Rattle.links.specs.Table.{tab}
 use Rattle.marks.specs.Fields.{flagsOf, dirty, has}
 use Rattle.reads.specs.Tables.{State, Told, told, rankOf}
-use Rattle.reads.specs.Ring.{Ring, dependencyBy, dirtyBy, onward, depsBy, checkedBy}
+use Rattle.reads.specs.Ring.{Ring, dependencyBy, dirtyBy, onward, depsBy}
 use Rattle.meaning.specs.State.{St, deps}
 use Rattle.meaning.specs.Links.{isNil, several}
 use Rattle.meaning.specs.Marks.{shallow}
@@ -99,15 +99,15 @@ module _ (ws : List ℤ) (r : Ring) (u : ℕ) (fr : St → ℕ → Ans) (ran : L
             at true e = (refl, a .changed e)
             at false e = h (a .unchanged e .1) (a .unchanged e .0)
 
-    -- there is something to check
-    pub check-sim : (x : State) (s : St) → P s → Sees ran x C s → (ds ≡ [] → ⊥) → length ds ≤ s .room .slots → Tells ran C (checkedBy ws r x u) (checkW fr s u)
-    unfolding checkedBy checkW wordAt
-    check-sim x s p q some few =
+    -- there is something to check; whatever budget is enough
+    pub check-sim : (x : State) (s : St) → P s → Sees ran x C s → (ds ≡ [] → ⊥) → length ds ≤ s .room .slots → (j : ℕ) → linkRows (x .links) ≤ j → Tells ran C (depsBy ws r u j x (node (x .nodes) u DEPS)) (checkW fr s u)
+    unfolding checkW wordAt
+    check-sim x s p q some few j many =
         let e = lists s p in
         let rows = q .lengths .of-links in
         let n = ap length e in
         let head : node (x .nodes) u DEPS ≡ firstWord (deps s u) = chain-at (wordAt (x .nodes) (x .links) NEXT-DEP u DEPS) 0 [] (deps s u) (q .deps .next u (low s p)) in
-        branch (Tells ran C (depsBy ws r u (linkRows (x .links)) x (node (x .nodes) u DEPS))) (isNil (deps s u))
+        branch (Tells ran C (depsBy ws r u j x (node (x .nodes) u DEPS))) (isNil (deps s u))
         (λ z. absurd (some (sym e ∙ isNil-true (deps s u) z)))
-        (λ z. subst (λ (y : ℕ). Tells ran C (depsBy ws r u (linkRows (x .links)) x y) (checkOn fr u s (deps s u))) (sym head)
-        (check-turns (deps s u) [] (linkRows (x .links)) x s (sym e) (omega arith) p q))
+        (λ z. subst (λ (y : ℕ). Tells ran C (depsBy ws r u j x y) (checkOn fr u s (deps s u))) (sym head)
+        (check-turns (deps s u) [] j x s (sym e) (omega arith) p q))

@@ -3,7 +3,7 @@ use mathlib.Core.Path.{_≡_, refl, sym, ap, ap₂, _∙_, subst}
 use mathlib.Core.Bool.{true, false}
 use mathlib.Core.Logic.{inl, inr}
 use mathlib.Core.List.{List, [], _∷_, _++_}
-use Prim.Native.Nat.{ℕ, suc, _+_, _<_}
+use Prim.Native.Nat.{ℕ, zero, suc, _+_, _<_, _≤_}
 use native.Mathlib.Omega.{arith}
 use lib.IntN.{ℤ}
 use Rattle.primitive.specs.declared.flags.Named.{Named}
@@ -36,13 +36,19 @@ pub slots-are : (N L : List ℕ) (W C : List ℤ) (s : St) → Lengths N L W C (
 slots-are N L W C s e = let q = e .of-links in omega arith
 
 module _ (g : Given) (st : Static g) (ran : List ℕ) (W C : List ℤ) where
+  -- whatever bound is enough
+  pub purge-within : (X : Set) (u : ℕ) → u < g .size → X u → ((m : ℕ) → Strict g st u m → X m → ⊥) → (t : Tab) (s : St) → Inside g X s → Shows ran t W C s → (b : ℕ) → slots (t .links) ≤ b
+      → Shows ran (purgedBy (unlinkedN b) b t u) W C (purge s u)
+  purge-within X u hu xu apart t s i r b many =
+      let e : s .room .slots ≡ g .room .slots = ap (λ (z : Given). z .room .slots) (i .same) in
+      let q = slots-are (t .nodes) (t .links) W C s (r .lengths) in
+      let k = suc (s .room .slots) in
+      let le : k ≤ b = omega arith in
+      purge-sim g st k b le (unlinkedN b) (unlinkN k) (unlink-sim g st k b le) (unlink-inside g st k) ran W C X u hu xu apart t s i (omega arith) r .0
+
   pub purge-shows : (X : Set) (u : ℕ) → u < g .size → X u → ((m : ℕ) → Strict g st u m → X m → ⊥) → (t : Tab) (s : St) → Inside g X s → Shows ran t W C s → Shows ran (purged t u) W C (purge s u)
   unfolding purged
-  purge-shows X u hu xu apart t s i r =
-      let e : s .room .slots ≡ g .room .slots = ap (λ (z : Given). z .room .slots) (i .same) in
-      let k = suc (s .room .slots) in
-      subst (λ (z : ℕ). Shows ran (purgedBy (unlinkedN z) z t u) W C (purge s u)) (sym (slots-are (t .nodes) (t .links) W C s (r .lengths)))
-      (purge-sim g st k (unlinkedN k) (unlinkN k) (unlink-sim g st k) (unlink-inside g st k) ran W C X u hu xu apart t s i (omega arith) r .0)
+  purge-shows X u hu xu apart t s i r = purge-within X u hu xu apart t s i r (slots (t .links)) (omega arith)
 
   -- a node without any link goes
   idle : (k : ℕ) (un : Tab → ℕ → ℕ → Tab) (ul : St → ℕ → St) (t : Tab) (s : St) (x : ℕ) → Shows ran t W C s → x < s .size → s .rest x ≡ [] → s .subs x ≡ []
@@ -62,7 +68,7 @@ module _ (g : Given) (st : Static g) (ran : List ℕ) (W C : List ℤ) where
       (up-same (s .rest) x (s .done x ++ s .rest x) ∙ ap₂ (λ (p q : List ℕ). p ++ q) a b) e
 
   -- ---- dispose, at rest
-  module _ (t : Tab) (s : St) (x : ℕ) (i : Inside g nobody s) (h : x < g .size) (q : readable (g .kind x) ≡ false) (r : Shows ran t W C s) where
+  module _ (t : Tab) (s : St) (x : ℕ) (i : Inside g nobody s) (h : x < g .size) (q : readable (g .kind x) ≡ false) (r : Shows ran t W C s) (B : ℕ) (many : s .room .slots ≤ B) where
     abbrev X : Set
     X = also nobody x
 
@@ -76,7 +82,7 @@ module _ (g : Given) (st : Static g) (ran : List ℕ) (W C : List ℤ) where
     emptied = purgeW (unlinkN (suc K)) begun x
 
     abbrev T : Tab
-    T = purgedBy (unlinkedN (suc K)) (suc K) (tab (retired (t .nodes) x) (t .links)) x
+    T = purgedBy (unlinkedN (suc B)) (suc B) (tab (retired (t .nodes) x) (t .links)) x
 
     wide : Inside g X s
     wide = widen g nobody X s (λ n z. absurd z) i
@@ -90,10 +96,13 @@ module _ (g : Given) (st : Static g) (ran : List ℕ) (W C : List ℤ) where
     same-slots : K ≡ g .room .slots
     same-slots = ap (λ (z : Given). z .room .slots) (i .same)
 
-    turned : Turned g st (suc K) (unlinkedN (suc K)) (unlinkN (suc K)) (unlink-sim g st (suc K)) (unlink-inside g st (suc K)) ran W C X x begun T emptied
+    more : suc K ≤ suc B
+    more = omega arith
+
+    turned : Turned g st (suc K) (suc B) more (unlinkedN (suc B)) (unlinkN (suc K)) (unlink-sim g st (suc K) (suc B) more) (unlink-inside g st (suc K)) ran W C X x begun T emptied
     turned =
         let e = same-slots in
-        purge-sim g st (suc K) (unlinkedN (suc K)) (unlinkN (suc K)) (unlink-sim g st (suc K)) (unlink-inside g st (suc K)) ran W C X x h (inr refl) away (tab (retired (t .nodes) x) (t .links)) begun i-begun (omega arith)
+        purge-sim g st (suc K) (suc B) more (unlinkedN (suc B)) (unlinkN (suc K)) (unlink-sim g st (suc K) (suc B) more) (unlink-inside g st (suc K)) ran W C X x h (inr refl) away (tab (retired (t .nodes) x) (t .links)) begun i-begun (omega arith)
         (begun-shows ran t W C s x (inside-held g nobody s st i) r (low-at g st nobody s x i h))
 
     left : Purged g st X begun x emptied
@@ -148,12 +157,12 @@ module _ (g : Given) (st : Static g) (ran : List ℕ) (W C : List ℤ) where
       unfolding cut
       x-flag = ap (λ (z : Named). z .mutable) (left .dropped .flags x outside .0 ∙ up-same (s .fl) x f0)
 
-      unwatched : c .subs x ≡ [] → Shows ran (unwatchedBy (unlinkedN K) K (cutOut T l p) x) W C (unwatchedW (unlinkN K) c x)
+      unwatched : c .subs x ≡ [] → Shows ran (unwatchedBy (unlinkedN B) B (cutOut T l p) x) W C (unwatchedW (unlinkN K) c x)
       unfolding unwatchedBy unwatchedW
       unwatched bare =
           both-ways (λ (y : Tab) (z : St). Shows ran y W C z) (isMutable (cutOut T l p .nodes) x) (c .fl x .mutable) (moves-is ran (cutOut T l p .nodes) (cutOut T l p .links) W C c x shown)
           (λ m. clash m x-flag)
-          (λ m. dispose-idle K (unlinkedN K) (unlinkN K) (cutOut T l p) c x (inside-held g (also (also X p) (emptied .dep l)) c st i-cut) shown (low-at g st (also (also X p) (emptied .dep l)) c x i-cut h) (x-done .0) (x-done .1) bare)
+          (λ m. dispose-idle B (unlinkedN B) (unlinkN K) (cutOut T l p) c x (inside-held g (also (also X p) (emptied .dep l)) c st i-cut) shown (low-at g st (also (also X p) (emptied .dep l)) c x i-cut h) (x-done .0) (x-done .1) bare)
 
       only : isOnly (T .links) l ≡ isNil (c .subs (emptied .dep l))
       only =
@@ -166,25 +175,33 @@ module _ (g : Given) (st : Static g) (ran : List ℕ) (W C : List ℤ) where
           only-is (T .links) l (y .0) (y .1) (back-at (λ z. link (T .links) z PREV-SUB) 0 l (y .0) (y .1) back) (next-of T NEXT-SUB d SUBS l (y .0) (y .1) chain)
           ∙ ap isNil (sym (cut-subs-at g st emptied l ∙ ap (remove l) (y .2) ∙ remove-mid l (y .0) (y .1) (subst Once (y .2) (o .subs-once d))))
 
-      last-shows : Shows ran (unlinkedN (suc K) T l p) W C (unlinkN (suc K) emptied l)
+      last-shows : Shows ran (unlinkedN (suc B) T l p) W C (unlinkN (suc K) emptied l)
       unfolding unlinkedN unlinkedBy unlinkN
       last-shows =
           both-ways (λ (y : Tab) (z : St). Shows ran y W C z) (isLive (T .links) l) (emptied .live l) (turned .0 .slots .live l)
           (λ a. both-ways (λ (y : Tab) (z : St). Shows ran y W C z) (isOnly (T .links) l) (isNil (c .subs (emptied .dep l))) only
-          (λ z. subst (λ (y : ℕ). Shows ran (unwatchedBy (unlinkedN K) K (cutOut T l p) y) W C (unwatchedW (unlinkN K) c (emptied .dep l))) (sym (turned .0 .slots .dep l))
-          (subst (λ (y : ℕ). Shows ran (unwatchedBy (unlinkedN K) K (cutOut T l p) y) W C (unwatchedW (unlinkN K) c y)) (sym (linked .1))
+          (λ z. subst (λ (y : ℕ). Shows ran (unwatchedBy (unlinkedN B) B (cutOut T l p) y) W C (unwatchedW (unlinkN K) c (emptied .dep l))) (sym (turned .0 .slots .dep l))
+          (subst (λ (y : ℕ). Shows ran (unwatchedBy (unlinkedN B) B (cutOut T l p) y) W C (unwatchedW (unlinkN K) c y)) (sym (linked .1))
           (unwatched (subst (λ (y : ℕ). c .subs y ≡ []) (linked .1) (isNil-true (c .subs (emptied .dep l)) z)))))
           (λ z. shown))
           (λ a. clash (linked .0) a)
 
-    ends : (ls : List ℕ) → emptied .subs x ≡ ls → Shows ran (disowned (unlinkedN (suc K)) T (slotOf (firstWord ls))) W C (lastLink (unlinkN (suc K)) emptied (headOf ls))
+    ends : (ls : List ℕ) → emptied .subs x ≡ ls → Shows ran (disowned (unlinkedN (suc B)) T (slotOf (firstWord ls))) W C (lastLink (unlinkN (suc K)) emptied (headOf ls))
     unfolding lastLink
     ends [] e = turned .0
-    ends (l ∷ ls) e = subst (λ (z : ℕ). Shows ran (unlinkedN (suc K) T l z) W C (unlinkN (suc K) emptied l)) (sym (turned .0 .slots .sub l)) (last-shows l ls e)
+    ends (l ∷ ls) e = subst (λ (z : ℕ). Shows ran (unlinkedN (suc B) T l z) W C (unlinkN (suc K) emptied l)) (sym (turned .0 .slots .sub l)) (last-shows l ls e)
 
-    pub dispose-shows : Shows ran (disposed t x) W C (dispose s x)
-    unfolding disposed disposedBy disposeW
-    dispose-shows =
-        subst (λ (z : ℕ). Shows ran (disposedBy (unlinkedN z) z t x) W C (dispose s x)) (sym (slots-are (t .nodes) (t .links) W C s (r .lengths)))
-        (subst (λ (z : ℕ). Shows ran (disowned (unlinkedN (suc K)) T (slotOf z)) W C (lastLink (unlinkN (suc K)) emptied (headOf (emptied .subs x)))) (sym (first-sub ran T W C emptied x (turned .0) x-low))
-        (ends (emptied .subs x) refl))
+    disposes : Shows ran (disposedBy (unlinkedN (suc B)) (suc B) t x) W C (dispose s x)
+    unfolding disposedBy disposeW
+    disposes =
+        subst (λ (z : ℕ). Shows ran (disowned (unlinkedN (suc B)) T (slotOf z)) W C (lastLink (unlinkN (suc K)) emptied (headOf (emptied .subs x)))) (sym (first-sub ran T W C emptied x (turned .0) x-low))
+        (ends (emptied .subs x) refl)
+
+  pub dispose-within : (t : Tab) (s : St) (x : ℕ) → Inside g nobody s → x < g .size → readable (g .kind x) ≡ false → Shows ran t W C s → (b : ℕ) → slots (t .links) ≤ b
+      → Shows ran (disposedBy (unlinkedN b) b t x) W C (dispose s x)
+  dispose-within t s x i h q r zero many = absurd (let e = slots-are (t .nodes) (t .links) W C s (r .lengths) in omega arith)
+  dispose-within t s x i h q r (suc b) many = let e = slots-are (t .nodes) (t .links) W C s (r .lengths) in disposes t s x i h q r b (omega arith)
+
+  pub dispose-shows : (t : Tab) (s : St) (x : ℕ) → Inside g nobody s → x < g .size → readable (g .kind x) ≡ false → Shows ran t W C s → Shows ran (disposed t x) W C (dispose s x)
+  unfolding disposed
+  dispose-shows t s x i h q r = dispose-within t s x i h q r (slots (t .links)) (omega arith)

@@ -140,12 +140,18 @@ module _ (g : Given) (st : Static g) (C : List ℤ) (l : List ℤ) where
       (subst (λ (a : ℕ). Alike (flushedFrom C k a (ranTo (p .after) (take (n * 2) m ++ p .log) (n + p .rows))) (flushOn t q)) one
       (flush-turns q (before ++ e ∷ []) k (n + p .rows) (p .after) (take (n * 2) m ++ p .log) t (j .inside) (run-queues-nothing (withQueue s q) e) (j .stuck ∙ free) (omega arith) (v .0) w′ fit)))
 
-  pub flush-sees : (x : State) (s : St) → Inside g nobody s → s .stuck ≡ false → s .log ≡ [] → length (flush s .log) * 2 ≤ length l → Sees [] x C s → Leaves l C (flushed C x l) (flush s)
-  unfolding flushed cleared
-  flush-sees x s i free blank fit r =
+  -- whatever budget is enough
+  pub flush-within : (x : State) (s : St) → Inside g nobody s → s .stuck ≡ false → s .log ≡ [] → length (flush s .log) * 2 ≤ length l → Sees [] x C s → (k : ℕ) → nodeRows (x .nodes) ≤ k
+      → Leaves l C (cleared (flushedFrom C k 0 (ranTo x l 0))) (flush s)
+  unfolding cleared
+  flush-within x s i free blank fit r k many =
       let c = queue-count x C s [] r in
       let b = count-low (x .nodes) in
       let w : Logged l (s .log) l 0 = subst (λ (rs : List Row). Logged l rs l 0) (sym blank) (log-none l) in
-      let f = flush-turns (s .queue) [] (nodeRows (x .nodes)) 0 x l s i refl free (omega arith) r w fit in
-      let a = flushedFrom C (nodeRows (x .nodes)) 0 (ranTo x l 0) in
+      let f = flush-turns (s .queue) [] k 0 x l s i refl free (omega arith) r w fit in
+      let a = flushedFrom C k 0 (ranTo x l 0) in
       record { sees = emptied-sees (a .after) C (flush s) (f .0 .0) (flush-empties s) (f .0 .1); logs = f .1 }
+
+  pub flush-sees : (x : State) (s : St) → Inside g nobody s → s .stuck ≡ false → s .log ≡ [] → length (flush s .log) * 2 ≤ length l → Sees [] x C s → Leaves l C (flushed C x l) (flush s)
+  unfolding flushed
+  flush-sees x s i free blank fit r = flush-within x s i free blank fit r (nodeRows (x .nodes)) (omega arith)

@@ -46,4 +46,5 @@ pub mod NewEffect
 pub mod Performs
 pub mod Commands
 pub mod Histories
+pub mod Budgets
 pub mod Demand1

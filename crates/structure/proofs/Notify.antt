@@ -218,15 +218,37 @@ module _ (g : Given) (st : Static g) (L : List ℕ) (s : St) (i : Inside g nobod
       (owner-sim k (climbed L (suc k)) (climb-sim k) (queued N e) (up f e (withWatching (f e) false)) (q ++ e ∷ []) e v
       (λ n h. up-other f e (withWatching (f e) false) n (λ y. omega arith) ∙ agree n h) mk (g .owner e) refl (omega arith))
 
-  -- ---- the whole
-  pub notify-sim : (N : List ℕ) (q : List ℕ) (e : ℕ) → Lives e → Marked [] N s f₀ q → length q + length (chain (s .room .nodes) (g .owner) f₀ e) ≤ s .room .nodes
-      → Marked [] (notified L N e) s (calm (chain (s .room .nodes) (g .owner) f₀ e) f₀) (q ++ reverse (chain (s .room .nodes) (g .owner) f₀ e))
-  unfolding notified
-  notify-sim N q e v m room =
+  -- a chain that ends by itself
+  chain-more : (k j e : ℕ) → k ≤ j → length (chain k (g .owner) f₀ e) ≤ k → chain j (g .owner) f₀ e ≡ chain k (g .owner) f₀ e
+  unfolding chain
+  chain-more zero j e le h = absurd (omega arith)
+  chain-more (suc k) zero e le h = absurd (omega arith)
+  chain-more (suc k) (suc j) e le h = ap (λ (xs : List ℕ). e ∷ xs) (go (λ o c. chain-more k j o (omega arith) c) (g .owner e) (omega arith))
+    where
+      at : (b : Bool) (o : ℕ) → (length (chain k (g .owner) f₀ o) ≤ k → chain j (g .owner) f₀ o ≡ chain k (g .owner) f₀ o) → length (onward b k o) ≤ k → onward b j o ≡ onward b k o
+      at true o r c = r c
+      at false o r c = refl
+
+      go : ((o : ℕ) → length (chain k (g .owner) f₀ o) ≤ k → chain j (g .owner) f₀ o ≡ chain k (g .owner) f₀ o) → (w : Option ℕ) → length (above k w) ≤ k → above j w ≡ above k w
+      go r none c = refl
+      go r (some o) c = at (f₀ o .watching) o (r o) c
+
+  -- ---- the whole, whatever budget is enough
+  pub notify-within : (N : List ℕ) (q : List ℕ) (e : ℕ) → Lives e → Marked [] N s f₀ q → length q + length (chain (s .room .nodes) (g .owner) f₀ e) ≤ s .room .nodes → (j : ℕ) → nodeRows N ≤ j
+      → Marked [] (reversedFrom (climbed L j N e) (count N)) s (calm (chain (s .room .nodes) (g .owner) f₀ e) f₀) (q ++ reverse (chain (s .room .nodes) (g .owner) f₀ e))
+  notify-within N q e v m room zero many = absurd (let b = m .long in omega arith)
+  notify-within N q e v m room (suc j) many =
       let k = s .room .nodes in
       let c = chain k (g .owner) f₀ e in
       let b = m .long in
-      let rows : nodeRows N ≡ suc k = omega arith in
-      let climbs : Marked [] (climbed L (nodeRows N) N e) s (calm c f₀) (q ++ c) = subst (λ (z : ℕ). Marked [] (climbed L z N e) s (calm c f₀) (q ++ c)) (sym rows) (climb-sim k N f₀ q e v (λ n h. refl) m room) in
-      subst (λ (z : ℕ). Marked [] (reversedFrom (climbed L (nodeRows N) N e) z) s (calm c f₀) (q ++ reverse c)) (sym (count-is s N f₀ q m (omega arith)))
-      (turn-marked s (climbed L (nodeRows N) N e) (calm c f₀) (q ++ c) climbs q c refl (omega arith))
+      let same : chain j (g .owner) f₀ e ≡ c = chain-more k j e (omega arith) (omega arith) in
+      let climbs : Marked [] (climbed L (suc j) N e) s (calm c f₀) (q ++ c) =
+      subst (λ (z : List ℕ). Marked [] (climbed L (suc j) N e) s (calm z f₀) (q ++ z)) same
+      (climb-sim j N f₀ q e v (λ n h. refl) m (subst (λ (z : List ℕ). length q + length z ≤ s .room .nodes) (sym same) room)) in
+      subst (λ (z : ℕ). Marked [] (reversedFrom (climbed L (suc j) N e) z) s (calm c f₀) (q ++ reverse c)) (sym (count-is s N f₀ q m (omega arith)))
+      (turn-marked s (climbed L (suc j) N e) (calm c f₀) (q ++ c) climbs q c refl (omega arith))
+
+  pub notify-sim : (N : List ℕ) (q : List ℕ) (e : ℕ) → Lives e → Marked [] N s f₀ q → length q + length (chain (s .room .nodes) (g .owner) f₀ e) ≤ s .room .nodes
+      → Marked [] (notified L N e) s (calm (chain (s .room .nodes) (g .owner) f₀ e) f₀) (q ++ reverse (chain (s .room .nodes) (g .owner) f₀ e))
+  unfolding notified
+  notify-sim N q e v m room = notify-within N q e v m room (nodeRows N) (omega arith)

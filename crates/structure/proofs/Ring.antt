@@ -120,7 +120,8 @@ module _ (g : Given) (st : Static g) where
   pub low-at : (X : Set) (s : St) (n : ℕ) → Inside g X s → n < g .size → n < s .size
   low-at X s n i h = subst (λ (z : Given). n < z .size) (sym (i .same)) h
 
-  module _ (k : ℕ) (un : Tab → ℕ → ℕ → Tab) (ul : St → ℕ → St) (sims : Sims k un ul) (uls : Unlinks k ul) (ran : List ℕ) (W C : List ℤ) where
+  -- the words may have a greater bound than the lists
+  module _ (k bound : ℕ) (enough : k ≤ bound) (un : Tab → ℕ → ℕ → Tab) (ul : St → ℕ → St) (sims : Sims k un ul) (uls : Unlinks k ul) (ran : List ℕ) (W C : List ℤ) where
     -- the turns of a purge
     abbrev pub Turned : Set → ℕ → St → Tab → St → Type 0
     Turned X u s t x = Shows ran t W C x × (x .subs u ≡ s .subs u) × Inside g X x
@@ -159,17 +160,17 @@ module _ (g : Given) (st : Static g) where
 
     -- the bound of the turns is enough
     pub purge-sim : (X : Set) (u : ℕ) → u < g .size → X u → ((m : ℕ) → Strict u m → X m → ⊥) → (t : Tab) (s : St) → Inside g X s → g .room .slots ≤ k + length (s .free)
-        → Shows ran t W C s → Turned X u s (purgedBy un k t u) (purgeW ul s u)
+        → Shows ran t W C s → Turned X u s (purgedBy un bound t u) (purgeW ul s u)
     unfolding purgedBy
     purge-sim X u hu xu apart t s i b r =
         let few = rest-few s u (inside-held g X s st i) in
         let e : s .room .slots ≡ g .room .slots = ap (λ (z : Given). z .room .slots) (i .same) in
-        subst (λ (z : ℕ). Turned X u s (walked un (suc k) t (slotOf z) u) (each ul s (s .rest u))) (sym (after-cursor ran t W C s u r (low-at X s u i hu)))
-        (purge-turns X u hu xu apart (s .rest u) (suc k) t s i refl (omega arith) b r)
+        subst (λ (z : ℕ). Turned X u s (walked un (suc bound) t (slotOf z) u) (each ul s (s .rest u))) (sym (after-cursor ran t W C s u r (low-at X s u i hu)))
+        (purge-turns X u hu xu apart (s .rest u) (suc bound) t s i refl (omega arith) b r)
 
     -- x has no subscriber: it goes with all it owns
     dispose-sim : (X : Set) (t : Tab) (s : St) (x : ℕ) → Inside g (also X x) s → x < g .size → readable (g .kind x) ≡ false → s .subs x ≡ [] → ((m : ℕ) → Under g x m → X m → ⊥)
-        → g .room .slots ≤ k + length (s .free) → Shows ran t W C s → Shows ran (disposedBy un k t x) W C (disposeW ul s x)
+        → g .room .slots ≤ k + length (s .free) → Shows ran t W C s → Shows ran (disposedBy un bound t x) W C (disposeW ul s x)
     unfolding disposedBy disposeW
     dispose-sim X t s x i h q e apart b r =
         let a = setGone (setFl (rewind s x) x f0) x true in
@@ -177,7 +178,7 @@ module _ (g : Given) (st : Static g) where
         let ia : Inside g (also X x) a = gone-inside g (also X x) (setFl (rewind s x) x f0) x (flags-inside g (also X x) (rewind s x) x (rewind-inside g (also X x) s x i (inr refl)) (inr refl) f0 (λ z. refl)) (inr refl) q in
         let low = low-at (also X x) s x i h in
         let p = purge-sim (also X x) x h (inr refl) away t₁ a ia b (begun-shows ran t W C s x (inside-held g (also X x) s st i) r low) in
-        bare-end ran W C un ul (purgedBy un k t₁ x) (purgeW ul a x) x (p .0) (low-at (also X x) (purgeW ul a x) x (p .2) h) (p .1 ∙ e)
+        bare-end ran W C un ul (purgedBy un bound t₁ x) (purgeW ul a x) x (p .0) (low-at (also X x) (purgeW ul a x) x (p .2) h) (p .1 ∙ e)
       where
         away : (m : ℕ) → Strict x m → also X x m → ⊥
         away m p (inl q) = apart m (p .0) q
@@ -185,7 +186,7 @@ module _ (g : Given) (st : Static g) where
 
     -- d has lost its last subscriber
     unwatched-sim : (X : Set) (t : Tab) (s : St) (d : ℕ) → Inside g (also X d) s → d < g .size → (s .fl d .mutable ≡ false → readable (g .kind d) ≡ false) → s .subs d ≡ [] → ((m : ℕ) → Under g d m → X m → ⊥)
-        → g .room .slots ≤ k + length (s .free) → Shows ran t W C s → Shows ran (unwatchedBy un k t d) W C (unwatchedW ul s d)
+        → g .room .slots ≤ k + length (s .free) → Shows ran t W C s → Shows ran (unwatchedBy un bound t d) W C (unwatchedW ul s d)
     unfolding unwatchedBy unwatchedW reset named bit
     unwatched-sim X t s d i h own e apart b r =
         let w = inside-held g (also X d) s st i in
@@ -198,30 +199,31 @@ module _ (g : Given) (st : Static g) where
         away m p (inl q) = apart m (p .0) q
         away m p (inr q) = p .1 q
 
-        falls : Held s → d < s .size → Shows ran (purgedBy un k (tab (reset (t .nodes) d 17) (t .links)) d) W C (purgeW ul (setFl (rewind s d) d f17) d)
+        falls : Held s → d < s .size → Shows ran (purgedBy un bound (tab (reset (t .nodes) d 17) (t .links)) d) W C (purgeW ul (setFl (rewind s d) d f17) d)
         falls w low =
             purge-sim (also X d) d h (inr refl) away (tab (reset (t .nodes) d 17) (t .links)) (setFl (rewind s d) d f17)
             (flags-inside g (also X d) (rewind s d) d (rewind-inside g (also X d) s d i (inr refl)) (inr refl) f17 (λ q. refl)) b
             (flag-shows ran (tab (setNode (t .nodes) d DEPS-TAIL 0) (t .links)) W C (rewind s d) d (held-rewind s d w) (rewind-shows ran t W C s d w r low) low 17 f17 refl refl) .0
 
         drop : Held s → d < s .size → (ds : List ℕ) → s .done d ≡ ds
-            → Shows ran (droppedBy un k t d (slotOf (node (t .nodes) d DEPS-TAIL))) W C (elim (isNil (s .done d)) [ true ↦ s | false ↦ purgeW ul (setFl (rewind s d) d f17) d ])
+            → Shows ran (droppedBy un bound t d (slotOf (node (t .nodes) d DEPS-TAIL))) W C (elim (isNil (s .done d)) [ true ↦ s | false ↦ purgeW ul (setFl (rewind s d) d f17) d ])
         drop w low [] q =
-            subst (λ (z : ℕ). Shows ran (droppedBy un k t d (slotOf z)) W C (elim (isNil (s .done d)) [ true ↦ s | false ↦ purgeW ul (setFl (rewind s d) d f17) d ])) (sym (r .deps .tail d low ∙ ap (lastWord 0) q))
+            subst (λ (z : ℕ). Shows ran (droppedBy un bound t d (slotOf z)) W C (elim (isNil (s .done d)) [ true ↦ s | false ↦ purgeW ul (setFl (rewind s d) d f17) d ])) (sym (r .deps .tail d low ∙ ap (lastWord 0) q))
             (subst (λ (z : List ℕ). Shows ran t W C (elim (isNil z) [ true ↦ s | false ↦ purgeW ul (setFl (rewind s d) d f17) d ])) (sym q) r)
         drop w low (x ∷ xs) q =
-            subst (λ (z : ℕ). Shows ran (droppedBy un k t d (slotOf z)) W C (elim (isNil (s .done d)) [ true ↦ s | false ↦ purgeW ul (setFl (rewind s d) d f17) d ])) (sym (r .deps .tail d low ∙ ap (lastWord 0) q ∙ last-some x xs .1))
-            (subst (λ (z : List ℕ). Shows ran (purgedBy un k (tab (reset (t .nodes) d 17) (t .links)) d) W C (elim (isNil z) [ true ↦ s | false ↦ purgeW ul (setFl (rewind s d) d f17) d ])) (sym q) (falls w low))
+            subst (λ (z : ℕ). Shows ran (droppedBy un bound t d (slotOf z)) W C (elim (isNil (s .done d)) [ true ↦ s | false ↦ purgeW ul (setFl (rewind s d) d f17) d ])) (sym (r .deps .tail d low ∙ ap (lastWord 0) q ∙ last-some x xs .1))
+            (subst (λ (z : List ℕ). Shows ran (purgedBy un bound (tab (reset (t .nodes) d 17) (t .links)) d) W C (elim (isNil z) [ true ↦ s | false ↦ purgeW ul (setFl (rewind s d) d f17) d ])) (sym q) (falls w low))
 
   -- ---- the recursion
   pub cut-subs-at : (s : St) (l : ℕ) → cut s l .subs (s .dep l) ≡ remove l (s .subs (s .dep l))
   unfolding cut
   cut-subs-at s l = up-same (s .subs) (s .dep l) (remove l (s .subs (s .dep l)))
 
-  pub unlink-sim : (k : ℕ) → Sims k (unlinkedN k) (unlinkN k)
+  pub unlink-sim : (k bound : ℕ) → k ≤ bound → Sims k (unlinkedN bound) (unlinkN k)
   unfolding unlinkedN unlinkedBy unlinkN
-  unlink-sim zero ran W C X t s l i lv xu apart near b r = absurd (let a = free-short s l (inside-held g X s st i) lv in let e : s .room .slots ≡ g .room .slots = ap (λ (z : Given). z .room .slots) (i .same) in omega arith)
-  unlink-sim (suc k) ran W C X t s l i lv xu apart near b r =
+  unlink-sim zero bound le ran W C X t s l i lv xu apart near b r = absurd (let a = free-short s l (inside-held g X s st i) lv in let e : s .room .slots ≡ g .room .slots = ap (λ (z : Given). z .room .slots) (i .same) in omega arith)
+  unlink-sim (suc k) zero le ran W C X t s l i lv xu apart near b r = absurd (omega arith)
+  unlink-sim (suc k) (suc bound) le ran W C X t s l i lv xu apart near b r =
       let w = inside-held g X s st i in
       let d = s .dep l in
       let c = cut s l in
@@ -238,8 +240,8 @@ module _ (g : Given) (st : Static g) where
       let ic = cut-inside g X s l i lv xu in
       both-ways (λ (x : Tab) (y : St). Shows ran x W C y) (isLive (t .links) l) (s .live l) (r .slots .live l)
       (λ a. both-ways (λ (x : Tab) (y : St). Shows ran x W C y) (isOnly (t .links) l) (isNil (c .subs d)) only
-      (λ e. subst (λ (z : ℕ). Shows ran (unwatchedBy (unlinkedN k) k (cutOut t l (s .sub l)) z) W C (unwatchedW (unlinkN k) c d)) (sym (r .slots .dep l))
-      (unwatched-sim k (unlinkedN k) (unlinkN k) (unlink-sim k) (unlink-inside g st k) ran W C X (cutOut t l (s .sub l)) c d ic low (owns s l d i lv apart) (isNil-true (c .subs d) e) apart (in-time s l b) shown))
+      (λ e. subst (λ (z : ℕ). Shows ran (unwatchedBy (unlinkedN bound) bound (cutOut t l (s .sub l)) z) W C (unwatchedW (unlinkN k) c d)) (sym (r .slots .dep l))
+      (unwatched-sim k bound (omega arith) (unlinkedN bound) (unlinkN k) (unlink-sim k bound (omega arith)) (unlink-inside g st k) ran W C X (cutOut t l (s .sub l)) c d ic low (owns s l d i lv apart) (isNil-true (c .subs d) e) apart (in-time s l b) shown))
       (λ e. shown))
       (λ a. clash lv a)
     where

@@ -100,16 +100,19 @@ module _ (g : Given) (st : Static g) (X : Set) (ran : List ℕ) (t : Tab) (W C :
   rows : linkRows L ≡ suc (s .room .slots)
   rows = let e = r .lengths .of-links in omega arith
 
-  -- from the first subscriber
-  from-first : (x : ℕ) (ls : List ℕ) → s .subs d ≡ x ∷ ls → Marked ran (shallowed L N x) s (soil (s .sub) (s .subs d) (s .fl)) (s .queue)
-  unfolding shallowed
-  from-first x ls e =
+  -- from the first subscriber, whatever budget is enough
+  pub shallow-marks : (x : ℕ) (ls : List ℕ) → s .subs d ≡ x ∷ ls → (j : ℕ) → linkRows L ≤ j → Marked ran (shallowFrom L j N x) s (shallow s d .fl) (shallow s d .queue)
+  shallow-marks x ls e j many =
       let few = subs-few in
       let k = ap length e in
       let z = rows in
-      subst (λ (y : List ℕ). Marked ran (shallowFrom L (linkRows L) N x) s (soil (s .sub) y (s .fl)) (s .queue)) (sym e)
-      (shallow-turns ran L s (s .queue) (held .fit) (r .slots .sub) (linkRows L) x ls N (s .fl) (omega arith) (subst (Along L) e (subs-along ran N L W C s d r low))
+      subst (λ (y : List ℕ). Marked ran (shallowFrom L j N x) s (soil (s .sub) y (s .fl)) (s .queue)) (sym e)
+      (shallow-turns ran L s (s .queue) (held .fit) (r .slots .sub) j x ls N (s .fl) (omega arith) (subst (Along L) e (subs-along ran N L W C s d r low))
       (λ y j. held .lists .inside y (held .lists .subs-live y d (subst (In y) (sym e) j) .0) .1) quiet (shows-marked ran t W C s r))
+
+  from-first : (x : ℕ) (ls : List ℕ) → s .subs d ≡ x ∷ ls → Marked ran (shallowed L N x) s (shallow s d .fl) (shallow s d .queue)
+  unfolding shallowed
+  from-first x ls e = shallow-marks x ls e (linkRows L) (omega arith)
 
   kept : (x : ℕ) → Kept N (shallowed L N x)
   kept x = record { column = λ n f a b. column-shallow L N x n f a b; header = λ n h b. header-shallow L N x n h b; long = length-shallow L N x }

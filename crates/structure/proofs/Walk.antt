@@ -1,4 +1,4 @@
--- Propagate over words, with its stack of words, is propagate over lists. The turns and the stack of the word definition are never used up. Assumes nothing.
+-- Propagate over words, with its stack of words, is propagate over lists. For any turns and any stack that are enough. Assumes nothing.
 use mathlib.Core.Path.{_≡_, refl, sym, ap, ap₂, _∙_, subst}
 use mathlib.Core.Bool.{Bool, true, false, not, _||_}
 use mathlib.Core.Logic.{_⊎_, inl, inr}
@@ -88,7 +88,7 @@ abbrev lengths : List (List ℕ) → ℕ
 lengths [] = 0
 lengths (w ∷ st) = length w + lengths st
 
-module _ (g : Given) (st : Static g) (L : List ℕ) (s : St) (subs-are : (x : ℕ) → link L x SUB ≡ s .sub x) (alongs : (d : ℕ) → d < s .size → Along L (s .subs d)) (few : s .room .nodes ≤ 1024) where
+module _ (g : Given) (st : Static g) (L : List ℕ) (s : St) (subs-are : (x : ℕ) → link L x SUB ≡ s .sub x) (alongs : (d : ℕ) → d < s .size → Along L (s .subs d)) where
   -- a live read link
   abbrev Ok : ℕ → Type 0
   Ok l = (s .live l ≡ true) × (readable (g .kind (s .dep l)) ≡ true)
@@ -203,13 +203,13 @@ module _ (g : Given) (st : Static g) (L : List ℕ) (s : St) (subs-are : (x : �
   -- from the slot l on, with w to come next
   abbrev FromSlot : ℕ → Type 0
   FromSlot k = (N : List ℕ) (m : Marks) (l : ℕ) (w : List ℕ) (ws : List (List ℕ)) (A : List ℕ) (len j : ℕ) → Inside g nobody (withMarks s m) → Marked [] N s (m .fl) (m .queue)
-      → ((x : ℕ) → In x (l ∷ w) → Ok x) → AllOk ws → Along L w → Aside L A len ws → length A ≡ 1024 → suc (Sum w ws (m .fl)) ≤ j → length ws + left (m .fl) ≤ g .size
+      → ((x : ℕ) → In x (l ∷ w) → Ok x) → AllOk ws → Along L w → Aside L A len ws → s .room .nodes ≤ length A → suc (Sum w ws (m .fl)) ≤ j → length ws + left (m .fl) ≤ g .size
       → prop s k m (l ∷ w) ws .stuck ≡ false → Marked [] (walked L j N (place l (firstWord w) A len)) s (prop s k m (l ∷ w) ws .fl) (prop s k m (l ∷ w) ws .queue)
 
   -- along the list w, or back
   abbrev FromList : ℕ → Type 0
   FromList k = (N : List ℕ) (m : Marks) (w : List ℕ) (ws : List (List ℕ)) (A : List ℕ) (a b len j : ℕ) → Inside g nobody (withMarks s m) → Marked [] N s (m .fl) (m .queue)
-      → ((x : ℕ) → In x w → Ok x) → AllOk ws → Along L w → Aside L A len ws → length A ≡ 1024 → Sum w ws (m .fl) ≤ j → length ws + left (m .fl) ≤ g .size
+      → ((x : ℕ) → In x w → Ok x) → AllOk ws → Along L w → Aside L A len ws → s .room .nodes ≤ length A → Sum w ws (m .fl) ≤ j → length ws + left (m .fl) ≤ g .size
       → prop s k m w ws .stuck ≡ false → Marked [] (along (walked L j) L N (place a b A len) (slotOf (firstWord w))) s (prop s k m w ws .fl) (prop s k m w ws .queue)
 
   list-step : (k : ℕ) → FromSlot (suc k) → FromList k → FromList (suc k)
@@ -230,7 +230,7 @@ module _ (g : Given) (st : Static g) (L : List ℕ) (s : St) (subs-are : (x : �
 
   -- ---- one turn
   module _ (k : ℕ) (slot : FromSlot k) (list : FromList k) (N : List ℕ) (m : Marks) (l : ℕ) (w : List ℕ) (ws : List (List ℕ)) (A : List ℕ) (len j : ℕ)
-      (i : Inside g nobody (withMarks s m)) (mk : Marked [] N s (m .fl) (m .queue)) (ok : (x : ℕ) → In x (l ∷ w) → Ok x) (oks : AllOk ws) (al : Along L w) (sd : Aside L A len ws) (long : length A ≡ 1024)
+      (i : Inside g nobody (withMarks s m)) (mk : Marked [] N s (m .fl) (m .queue)) (ok : (x : ℕ) → In x (l ∷ w) → Ok x) (oks : AllOk ws) (al : Along L w) (sd : Aside L A len ws) (long : s .room .nodes ≤ length A)
       (enough : Sum w ws (m .fl) ≤ j) (deep : length ws + left (m .fl) ≤ g .size) where
     abbrev v : ℕ
     v = s .sub l
@@ -351,7 +351,7 @@ module _ (g : Given) (st : Static g) (L : List ℕ) (s : St) (subs-are : (x : �
             (subst (λ (o : ℕ). Marked [] (p M (place x (suc y) (pushed A len (firstWord w)) o)) s (prop s k h (x ∷ y ∷ ds) (w ∷ ws) .fl) (prop s k h (x ∷ y ∷ ds) (w ∷ ws) .queue)) (sym (len-room A len stacked))
             (slot M h x (y ∷ ds) (w ∷ ws) (set A len (firstWord w)) (suc len) j (stuck-inside g nobody (withMarks s m′) (h .stuck) i′) mk′ (λ o c. oku o (subst (In o) (sym e) c)) ((λ o c. ok o (inr c)), oks) (subst (Along L) e (alongs v v-low′) .1)
             (len, refl, getD-set-same A len (firstWord w) 0 stacked, al, aside-frame L A (set A len (firstWord w)) len ws (λ o c. below-kept A len (firstWord w) o c) sd)
-            (length-set A len (firstWord w) ∙ long) (omega arith) (omega arith) q))
+            (subst (λ (z : ℕ). s .room .nodes ≤ z) (sym (length-set A len (firstWord w))) long) (omega arith) (omega arith) q))
 
     turned : prop s (suc k) m (l ∷ w) ws .stuck ≡ false → Marked [] (turn p L N pl v) s (prop s (suc k) m (l ∷ w) ws .fl) (prop s (suc k) m (l ∷ w) ws .queue)
     unfolding prop below onward
@@ -400,10 +400,11 @@ unless-most : (b : Bool) (k : ℕ) → unless b k ≤ k
 unless-most true k = omega arith
 unless-most false k = omega arith
 
-pub propagate-shows : (g : Given) (st : Static g) (t : Tab) (W C : List ℤ) (s : St) (d x : ℕ) (ls : List ℕ) → Inside g nobody s → Shows [] t W C s → d < g .size → readable (g .kind d) ≡ true → unclean (s .fl d) ≡ true
-    → s .stuck ≡ false → s .room .nodes ≤ 1024 → s .subs d ≡ x ∷ ls → Shows [] (tab (propagated (t .links) (t .nodes) x) (t .links)) W C (propagate s d)
-unfolding propagated
-propagate-shows g st t W C s d x ls i r h rd un free few e =
+-- whatever budget and stack are enough, the walk leaves the marks of the lists
+pub propagate-marks : (g : Given) (st : Static g) (t : Tab) (W C : List ℤ) (s : St) (d x : ℕ) (ls : List ℕ) → Inside g nobody s → Shows [] t W C s → d < g .size → readable (g .kind d) ≡ true → unclean (s .fl d) ≡ true
+    → s .stuck ≡ false → s .subs d ≡ x ∷ ls → (j a : ℕ) → linkRows (t .links) ≤ j → s .room .nodes ≤ a
+    → Marked [] (walked (t .links) j (t .nodes) (place x (nextSub (t .links) x) (replicate a 0) 0)) s (propagate s d .fl) (propagate s d .queue)
+propagate-marks g st t W C s d x ls i r h rd un free e j a many deep =
     let L = t .links in
     let N = t .nodes in
     let o = i .lists in
@@ -412,7 +413,7 @@ propagate-shows g st t W C s d x ls i r h rd un free few e =
     let al : (n : ℕ) → n < s .size → Along L (s .subs n) = λ n h. subs-along [] N L W C s n r h in
     let low : d < s .size = subst (λ (z : Given). d < z .size) (sym (i .same)) h in
     let own : Along L (x ∷ ls) = subst (Along L) e (al d low) in
-    let a = gather-length (s .subs) (g .size) in
+    let y = gather-length (s .subs) (g .size) in
     let b = most-below (g .room .slots) (gather (s .subs) (g .size))
     (gather-once (s .subs) (g .size) (λ m h. o .subs-once m) (λ y z l p q. sym (o .subs-live l y p .1) ∙ o .subs-live l z q .1))
     (λ l j. let y = gather-in (s .subs) (g .size) l j in o .live-slot l (o .subs-live l (y .0) (y .2) .0)) in
@@ -423,10 +424,19 @@ propagate-shows g st t W C s d x ls i r h rd un free few e =
     let n = ap length e in
     let rows = r .lengths .of-links in
     let stuck : propagate s d .stuck ≡ false = propagate-inside g st s d i h rd un .stuck ∙ free in
-    let m = both-walks g st L s (r .slots .sub) al few (turns s) .0 N (marksOf s) x ls [] (replicate 1024 0) 0 (linkRows L) i (shows-marked [] t W C s r)
-    (λ l j. let y = o .subs-live l d (subst (In l) (sym e) j) in (y .0, ap (λ (z : ℕ). readable (g .kind z)) (y .1) ∙ rd)) tt (own .1) refl (length-replicate {A = ℕ} 1024 0) (omega arith) (omega arith)
+    let tall : s .room .nodes ≤ length {A = ℕ} (replicate a 0) = subst (λ (z : ℕ). s .room .nodes ≤ z) (sym (length-replicate {A = ℕ} a 0)) deep in
+    let m = both-walks g st L s (r .slots .sub) al (turns s) .0 N (marksOf s) x ls [] (replicate a 0) 0 j i (shows-marked [] t W C s r)
+    (λ l j. let y = o .subs-live l d (subst (In l) (sym e) j) in (y .0, ap (λ (z : ℕ). readable (g .kind z)) (y .1) ∙ rd)) tt (own .1) refl tall (omega arith) (omega arith)
     (subst (λ (z : List ℕ). prop s (turns s) (marksOf s) z [] .stuck ≡ false) e stuck) in
-    marked-shows [] [] t (walked L (linkRows L) N (place x (nextSub L x) (replicate 1024 0) 0)) W C s (prop s (turns s) (marksOf s) (s .subs d) [] .fl) (prop s (turns s) (marksOf s) (s .subs d) [] .queue) (prop s (turns s) (marksOf s) (s .subs d) [] .stuck) r
+    subst (λ (z : List ℕ). Marked [] (walked L j N (place x (nextSub L x) (replicate a 0) 0)) s (prop s (turns s) (marksOf s) z [] .fl) (prop s (turns s) (marksOf s) z [] .queue)) (sym e)
+    (subst (λ (z : ℕ). Marked [] (walked L j N (place x z (replicate a 0) 0)) s (prop s (turns s) (marksOf s) (x ∷ ls) [] .fl) (prop s (turns s) (marksOf s) (x ∷ ls) [] .queue)) (sym (own .0)) m)
+
+pub propagate-shows : (g : Given) (st : Static g) (t : Tab) (W C : List ℤ) (s : St) (d x : ℕ) (ls : List ℕ) → Inside g nobody s → Shows [] t W C s → d < g .size → readable (g .kind d) ≡ true → unclean (s .fl d) ≡ true
+    → s .stuck ≡ false → s .room .nodes ≤ 1024 → s .subs d ≡ x ∷ ls → Shows [] (tab (propagated (t .links) (t .nodes) x) (t .links)) W C (propagate s d)
+unfolding propagated
+propagate-shows g st t W C s d x ls i r h rd un free few e =
+    let L = t .links in
+    let N = t .nodes in
+    marked-shows [] [] t (walked L (linkRows L) N (place x (nextSub L x) (replicate 1024 0) 0)) W C s (propagate s d .fl) (propagate s d .queue) (propagate s d .stuck) r
     (record { column = λ n f a b. column-propagated L N x n f a b; header = λ n h b. header-propagated L N x n h b; long = length-propagated L N x })
-    (subst (λ (z : List ℕ). Marked [] (walked L (linkRows L) N (place x (nextSub L x) (replicate 1024 0) 0)) s (prop s (turns s) (marksOf s) z [] .fl) (prop s (turns s) (marksOf s) z [] .queue)) (sym e)
-    (subst (λ (z : ℕ). Marked [] (walked L (linkRows L) N (place x z (replicate 1024 0) 0)) s (prop s (turns s) (marksOf s) (x ∷ ls) [] .fl) (prop s (turns s) (marksOf s) (x ∷ ls) [] .queue)) (sym (own .0)) m))
+    (propagate-marks g st t W C s d x ls i r h rd un free e (linkRows L) 1024 (omega arith) few)
