@@ -1,5 +1,6 @@
 #!/usr/bin/env python3
-"""edits.py: every `old:` text of a must-fail edit stands exactly once in its file. Quick, before the edits are tried."""
+"""edits.py: every `old:` text of a must-fail edit stands exactly once in its file, and no line is passed over: a text is one line.
+Quick, before the edits are tried."""
 import os
 import re
 import sys
@@ -18,5 +19,8 @@ for crate in sorted(os.listdir('crates')):
                 if found != 1:
                     bad += 1
                     print('%s/%s: its old text stands %d times in %s' % (crate, name, found, file))
-print('%d must-fail edits, %d with a text that does not stand once' % (count, bad))
+            elif line and not line.startswith(('new:', '#')):
+                bad += 1
+                print('%s/%s: a line that is passed over: %s' % (crate, name, line))
+print('%d must-fail edits, %d lines that do not do what they say' % (count, bad))
 sys.exit(1 if bad else 0)
