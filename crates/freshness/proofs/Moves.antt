@@ -18,7 +18,7 @@ use Rattle.meaning.proofs.Inside.{Set, nobody, only, Slots}
 use Rattle.meaning.proofs.Frames.{Frame, was-link}
 use Rattle.meaning.proofs.Soiling.{Turn, stays, turns, soil-turn}
 use Rattle.freshness.proofs.Clean.{φ}
-use Rattle.freshness.proofs.Shallow.{soil-here}
+use Rattle.meaning.proofs.Soiling.{soil-here}
 
 -- a dependency of u has another stored value
 pub record Changed (g : Given) (s t : St) (u : ℕ) : Type 0 where

@@ -12,10 +12,10 @@ use Rattle.meaning.specs.WellFormed.{In}
 use Rattle.meaning.proofs.Laws.{clash, false≢true, either, branch, or-last, up-same, up-by}
 use Rattle.meaning.proofs.Still.{Given}
 use Rattle.meaning.proofs.Inside.{Set, Slots}
-use Rattle.meaning.proofs.Soiling.{Turn, stays, turns, soil-turn}
+use Rattle.meaning.proofs.Soiling.{Turn, stays, turns, soil-turn, turn-dirty, soil-here}
 use Rattle.freshness.proofs.Inv.{Records, union, Linked, Inv}
 
--- what a turn leaves: PENDING, MUTABLE, and DIRTY where it was
+-- what a turn leaves: PENDING and MUTABLE
 module _ (sub : ℕ → ℕ) (ls : List ℕ) (f h : Named) (n : ℕ) where
   turn-pending : Turn sub ls f h n → h .pending ≡ f .pending
   turn-pending (stays e) = ap (λ (x : Named). x .pending) e
@@ -25,34 +25,10 @@ module _ (sub : ℕ → ℕ) (ls : List ℕ) (f h : Named) (n : ℕ) where
   turn-mutable (stays e) = ap (λ (x : Named). x .mutable) e
   turn-mutable (turns a b e l i q) = ap (λ (x : Named). x .mutable) e
 
-  turn-dirty : Turn sub ls f h n → f .dirty ≡ true → h .dirty ≡ true
-  turn-dirty (stays e) d = ap (λ (x : Named). x .dirty) e ∙ d
-  turn-dirty (turns a b e l i q) d = ap (λ (x : Named). x .dirty) e
-
   -- unclean after it, unclean before it
   turn-unclean : Turn sub ls f h n → unclean h ≡ true → unclean f ≡ true
   turn-unclean (stays e) u = ap unclean (sym e) ∙ u
   turn-unclean (turns a b e l i q) u = or-last (f .dirty) (f .pending) a
-
-and-one : (a b : Bool) → (a && not b) ≡ false → a ≡ true → b ≡ true
-and-one true true e p = refl
-and-one true false e p = sym e
-and-one false b e p = false≢true p
-
--- a pending subscriber becomes dirty
-pub soil-here : (sub : ℕ → ℕ) (l : ℕ) (ls : List ℕ) (f : ℕ → Named) → In l ls → f (sub l) .pending ≡ true → soil sub ls f (sub l) .dirty ≡ true
-unfolding soil
-soil-here sub l (x ∷ ls) f (inl e) p =
-    branch (λ (g : ℕ → Named). soil sub ls g (sub l) .dirty ≡ true) (f (sub x) .pending && not (f (sub x) .dirty))
-    (λ t. turn-dirty sub ls _ _ (sub l) (soil-turn sub ls (up f (sub x) (withDirty (f (sub x)) true)) (sub l))
-    (subst (λ (k : ℕ). up f (sub x) (withDirty (f (sub x)) true) (sub k) .dirty ≡ true) (sym e) (ap (λ (z : Named). z .dirty) (up-same f (sub x) (withDirty (f (sub x)) true)))))
-    (λ t. turn-dirty sub ls _ _ (sub l) (soil-turn sub ls f (sub l))
-    (subst (λ (k : ℕ). f (sub k) .dirty ≡ true) (sym e) (and-one (f (sub x) .pending) (f (sub x) .dirty) t (subst (λ (k : ℕ). f (sub k) .pending ≡ true) e p))))
-soil-here sub l (x ∷ ls) f (inr i) p =
-    branch (λ (g : ℕ → Named). soil sub ls g (sub l) .dirty ≡ true) (f (sub x) .pending && not (f (sub x) .dirty))
-    (λ t. soil-here sub l ls (up f (sub x) (withDirty (f (sub x)) true)) i
-    (up-by f (sub x) (withDirty (f (sub x)) true) (λ (z : Named). z .pending ≡ true) (sub l) (λ q. subst (λ (k : ℕ). f k .pending ≡ true) q p) (λ q. p)))
-    (λ t. soil-here sub l ls f i p)
 
 module _ (g : Given) (p : ℕ → Value) (ρ : Records) (X A : Set) (s : St) (sl : Slots g s) (d : ℕ) (marked : (u : ℕ) → Linked s d u → (A u → ⊥) → s .fl u .pending ≡ true) where
   abbrev T : Set

@@ -12,23 +12,23 @@ use lib.IntN.{ℤ, pos}
 use lib.ListN.{length, drop}
 use borrow.Author.Tests.{leb-false, ltb-false}
 use Rattle.primitive.specs.declared.values.Value.{Value}
-use Rattle.meaning.specs.State.{St, Row, signal, computed, readable, deps, unclean, f1, f2, f17, up}
+use Rattle.meaning.specs.State.{St, Row, signal, computed, readable, deps, unclean, f0, f1, f2, f17, up}
 use Rattle.meaning.specs.Setters.{withQueue, withDepth, withLog, setFl, setPend}
 use Rattle.meaning.specs.Links.{several, link, cut, unlink}
 use Rattle.meaning.specs.Marks.{Marks, marksOf, notify, prop, turns, propagate}
-use Rattle.meaning.specs.Words.{Command, makeEffect, readOf, disposeOf, batchEnd, commandOf, nodeOf, ownerOf, formulaOf}
+use Rattle.meaning.specs.Words.{Command, makeComputed, makeEffect, readOf, disposeOf, batchStart, batchEnd, commandOf, nodeOf, ownerOf, formulaOf}
 use Rattle.meaning.specs.Reserve.{total, reserveOf, reserve, liveLinks}
 use Rattle.meaning.specs.Refusals.{sightOf, asksOf}
 use Rattle.meaning.specs.WellFormed.{In, Once, WellFormed}
 use Rattle.meaning.specs.Reach.{Reached}
 use Rattle.meaning.specs.Order.{Walked}
 use Rattle.meaning.specs.Owners.{Below}
-use Rattle.meaning.specs.Engine.{store}
+use Rattle.meaning.specs.Engine.{store, newComputed, endAt}
 use Rattle.meaning.specs.Moments.{flushing, Steps, here, later, links, Moment, begun, reserveFrom}
 use Rattle.meaning.specs.Evaluations.{reevaluations}
 use Rattle.meaning.specs.Commands.{number, perform, Answer, command, runs}
 use Rattle.meaning.specs.Outcome.{firstRow, flushes, MayRun, made, flushed, MustGo, disposed, owned as had, Writes, madeBy, valueOf}
-use Rattle.meaning.proofs.Laws.{clash, either}
+use Rattle.meaning.proofs.Laws.{clash, either, up-same}
 use Rattle.meaning.proofs.Still.{given}
 use Rattle.meaning.proofs.Flush.{whos}
 use Rattle.meaning.proofs.Performed.{performed, known, rows-are}
@@ -50,7 +50,7 @@ use Rattle.meaning.proofs.Unwatched.{becomes-17, stays}
 use Rattle.meaning.proofs.Throughout.{few-live, unstuck, linked-few, moment-within}
 use Rattle.meaning.proofs.Stepped.{perform-steps, begun-within}
 use Rattle.meaning.proofs.Cycle.{perform-counts}
-use Rattle.meaning.proofs.Valued.{read-valued}
+use Rattle.meaning.proofs.Valued.{read-valued, Takes, read-takes}
 use Rattle.meaning.proofs.Written.{perform-worth, writes-store, stores-nothing, stores-pending, stores-flush, stores-later, end-flushes}
 
 -- n is gone, and has no links
@@ -163,6 +163,20 @@ module _ (s : St) (rows : ℕ) (ws : List ℤ) (w : WellFormed s) (ok : command 
   unfolding perform
   end-runs-queue is h = ap (λ (z : Answer). z .st) (performed s rows ws batchEnd is ok .0) ∙ end-flushes (withLog s []) h
 
+  -- a start, and the end of an inner batch, change the depth and nothing else
+  pub start-deepens : commandOf ws ≡ some batchStart → t ≡ withDepth (withLog s []) (suc (s .depth))
+  unfolding perform
+  start-deepens is = ap (λ (z : Answer). z .st) (performed s rows ws batchStart is ok .0)
+
+  pub inner-end : commandOf ws ≡ some batchEnd → (d : ℕ) → s .depth ≡ suc (suc d) → t ≡ withDepth (withLog s []) (suc d)
+  unfolding perform
+  inner-end is d h = ap (λ (z : Answer). z .st) (performed s rows ws batchEnd is ok .0) ∙ ap (endAt (withLog s [])) h
+
+  -- a new computed is not yet evaluated
+  pub new-computed-waits : (cs : List ℤ) → commandOf ws ≡ some (makeComputed cs) → t .fl (s .size) ≡ f0
+  unfolding perform newComputed
+  new-computed-waits cs is = ap (λ (z : Answer). z .st .fl (s .size)) (performed s rows ws (makeComputed cs) is ok .0) ∙ up-same _ (s .size) f0
+
   -- ---- who goes
   -- of the nodes there were: what is disposed, and what effects with a row owned, with all below them; nothing else
   pub goes-exactly : (c : Command) → commandOf ws ≡ some c → (n : ℕ) → n < s .size → s .gone n ≡ false → (t .gone n ≡ true) ↔ MustGo s c (whos (a .rows)) n
@@ -182,6 +196,10 @@ module _ (s : St) (rows : ℕ) (ws : List ℤ) (w : WellFormed s) (ok : command 
   -- what is read has a value: the node is clean (flags 1; only flags 0 means no value), and its stored value is the answer. In a formula: `m-settled` (Reading)
   pub read-has-value : (n : ℤ) → commandOf ws ≡ some (readOf n) → (t .fl (nodeOf n) ≡ f1) × (a .val ≡ t .sto (nodeOf n))
   read-has-value n is = read-valued s rows w ws n is ok
+
+  -- reading a signal that was written moves pending to current and, if that changed it, marks its pending subscribers dirty
+  pub read-takes-pending : (n : ℤ) → commandOf ws ≡ some (readOf n) → s .kind (nodeOf n) ≡ signal → s .fl (nodeOf n) ≡ f17 → Takes s (nodeOf n) t
+  read-takes-pending n is = read-takes s rows w ws n is ok
 
   -- the value is that of the table of commands, and the nodes are one more or as many
   pub answers-value : (c : Command) → commandOf ws ≡ some c → (a .val ≡ valueOf s t c) × (t .size ≡ s .size + madeBy c)

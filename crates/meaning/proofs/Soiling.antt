@@ -9,7 +9,7 @@ use Rattle.primitive.specs.declared.flags.Named.{Named}
 use Rattle.meaning.specs.State.{St, signal, readable, f0, f1, f2, f17, withDirty, up}
 use Rattle.meaning.specs.Marks.{soil, wakes, shallow}
 use Rattle.meaning.specs.WellFormed.{In, readLinks, ComputedFlags, never, clean, stale, maybe, dirty, EffectFlags, watching, pushed, pending, dirty as soiled}
-use Rattle.meaning.proofs.Laws.{clash, false≢true, branch, or-false, or-none, up-by}
+use Rattle.meaning.proofs.Laws.{clash, false≢true, branch, or-false, or-none, up-same, up-by}
 use Rattle.meaning.proofs.Still.{Given}
 use Rattle.meaning.proofs.Inside.{Set, AtRest, Rests, Inside}
 use Rattle.meaning.proofs.Frames.{Soiled, Frame, was-link}
@@ -50,6 +50,31 @@ soil-turn sub (l ∷ ls) f n =
         (q ∙ p .1 ∙ sym (ap (λ (x : Named). withDirty x true) at)) l (inl refl) (sym (p .0))
     hit h e (inl p) (turns a b c k i q) = false≢true (sym b ∙ ap (λ (x : Named). x .dirty) (p .1))
     hit h e (inr p) t = more (subst (λ (x : Named). Turn sub ls x h n) p t)
+
+-- what is dirty stays so
+pub turn-dirty : (sub : ℕ → ℕ) (ls : List ℕ) (f h : Named) (n : ℕ) → Turn sub ls f h n → f .dirty ≡ true → h .dirty ≡ true
+turn-dirty sub ls f h n (stays e) d = ap (λ (x : Named). x .dirty) e ∙ d
+turn-dirty sub ls f h n (turns a b e l i q) d = ap (λ (x : Named). x .dirty) e
+
+and-one : (a b : Bool) → (a && not b) ≡ false → a ≡ true → b ≡ true
+and-one true true e p = refl
+and-one true false e p = sym e
+and-one false b e p = false≢true p
+
+-- a pending subscriber becomes dirty
+pub soil-here : (sub : ℕ → ℕ) (l : ℕ) (ls : List ℕ) (f : ℕ → Named) → In l ls → f (sub l) .pending ≡ true → soil sub ls f (sub l) .dirty ≡ true
+unfolding soil
+soil-here sub l (x ∷ ls) f (inl e) p =
+    branch (λ (g : ℕ → Named). soil sub ls g (sub l) .dirty ≡ true) (f (sub x) .pending && not (f (sub x) .dirty))
+    (λ t. turn-dirty sub ls _ _ (sub l) (soil-turn sub ls (up f (sub x) (withDirty (f (sub x)) true)) (sub l))
+    (subst (λ (k : ℕ). up f (sub x) (withDirty (f (sub x)) true) (sub k) .dirty ≡ true) (sym e) (ap (λ (z : Named). z .dirty) (up-same f (sub x) (withDirty (f (sub x)) true)))))
+    (λ t. turn-dirty sub ls _ _ (sub l) (soil-turn sub ls f (sub l))
+    (subst (λ (k : ℕ). f (sub k) .dirty ≡ true) (sym e) (and-one (f (sub x) .pending) (f (sub x) .dirty) t (subst (λ (k : ℕ). f (sub k) .pending ≡ true) e p))))
+soil-here sub l (x ∷ ls) f (inr i) p =
+    branch (λ (g : ℕ → Named). soil sub ls g (sub l) .dirty ≡ true) (f (sub x) .pending && not (f (sub x) .dirty))
+    (λ t. soil-here sub l ls (up f (sub x) (withDirty (f (sub x)) true)) i
+    (up-by f (sub x) (withDirty (f (sub x)) true) (λ (z : Named). z .pending ≡ true) (sub l) (λ q. subst (λ (k : ℕ). f k .pending ≡ true) q p) (λ q. p)))
+    (λ t. soil-here sub l ls f i p)
 
 wakes-none : (sub : ℕ → ℕ) (ls : List ℕ) (f : ℕ → Named) → ((l : ℕ) → In l ls → f (sub l) .pending ≡ true → f (sub l) .watching ≡ false) → wakes sub ls f ≡ false
 unfolding wakes
