@@ -4,7 +4,7 @@
 //!
 //! ORACLE is the binary that `oracle/build` names. Its generator writes the scripts, at the program's sizes, at the host's (one
 //! command in ten) and at small ones where room runs out; its engine answers them. What a typed [`Command`] can say is sent as one,
-//! anything else as words.
+//! anything else as words. At the small sizes the [`Record`]s after each command are compared with the engine's tables too.
 
 use std::env;
 use std::io::{self, Read, Write};
@@ -23,11 +23,11 @@ const BATCHES: [(&str, Room, usize, usize); 6] = [
     ("host, short log", Room { rows: 150, ..Room::HOST }, 2_500, 20),
 ];
 
+/// Tables of more nodes than this are not looked at, for the time that it takes.
+const MOST_LOOKED_AT: usize = 24;
+
 /// About how many commands are held in memory at a time.
 const CHUNK: usize = 25_000;
-
-/// The longest line of a script, its newline not counted.
-const MOST_BYTES: usize = 4_096;
 
 /// What was compared.
 #[derive(Default)]
@@ -103,8 +103,10 @@ fn compare(
         flags.iter().flat_map(|(name, number)| [name.to_string(), number.to_string()]).collect();
     let asked = ["--generate".to_string(), seed.to_string(), scripts.to_string(), each.to_string()];
     let written = output(oracle, &[&asked[..], &flags].concat(), Vec::new())?;
-    let answered =
-        output(oracle, &[&["--many".to_string()], &flags[..]].concat(), written.clone())?;
+    let looks = room.nodes <= MOST_LOOKED_AT;
+    let many = ["--many".to_string(), "--dump".to_string()];
+    let many = if looks { &many[..] } else { &many[..1] };
+    let answered = output(oracle, &[many, &flags].concat(), written.clone())?;
     let [written, answered] =
         [written, answered].map(|stream| split(&String::from_utf8_lossy(&stream)));
     if (written.len(), answered.len()) != (scripts, scripts) {
@@ -113,7 +115,7 @@ fn compare(
     let mut tables = Tables::new(room).expect("the capacities above are within the limits");
     for (script, answers) in written.iter().zip(answered) {
         tables.empty();
-        play(&mut tables, script, &answers, tally);
+        play(&mut tables, script, &answers, looks, tally);
     }
     Ok(())
 }
@@ -152,17 +154,16 @@ fn split(stream: &str) -> Vec<String> {
 }
 
 /// One script from empty tables, as far as its pairs can be read. A pair that can't be read is not for the crate; it ends a script.
-fn play(tables: &mut Tables, script: &str, answers: &str, tally: &mut Tally) {
+fn play(tables: &mut Tables, script: &str, answers: &str, looks: bool, tally: &mut Tally) {
     let mut theirs = one_by_one(answers).into_iter();
-    let mut lines = script.split_inclusive('\n');
     let mut unreadable = false;
-    while let Some(first) = lines.next() {
-        let Some(words) = lines.next().and_then(|second| pair(first, second)) else {
+    for words in Script::new(script.as_bytes()) {
+        let Ok(words) = words else {
             unreadable = true;
             break;
         };
         tally.commands += 1;
-        let answered = match typed(&words) {
+        let answered = match Command::from_words(&words) {
             Some(command) => {
                 tally.typed += 1;
                 tally.differences += u64::from(command.words() != words);
@@ -174,7 +175,10 @@ fn play(tables: &mut Tables, script: &str, answers: &str, tally: &mut Tally) {
             tally.accepted += 1;
             tally.runs += answer.runs().len() as u64;
         }
-        let (ours, theirs) = (lines_of(answered), theirs.next().unwrap_or_default());
+        let (mut ours, mut theirs) = (lines_of(answered), theirs.next().unwrap_or_default());
+        if looks {
+            (ours, theirs) = (ours + &seen(tables), without_versions(&theirs));
+        }
         if ours != theirs {
             tally.differences += 1;
             eprintln!("judged: {words:?}\n  ours:   {ours:?}\n  theirs: {theirs:?}");
@@ -196,19 +200,6 @@ fn one_by_one(answers: &str) -> Vec<String> {
     each
 }
 
-/// The words of a pair of lines that is written as document 01 says: written anew, it is the same.
-fn pair(first: &str, second: &str) -> Option<Vec<i64>> {
-    let command = first.strip_prefix("cmd=")?.strip_suffix('\n')?;
-    let arguments = second.strip_prefix("args=")?.strip_suffix('\n')?;
-    let texts = [command].into_iter().chain(arguments.split(' ').filter(|_| !arguments.is_empty()));
-    let words = texts.map(|text| text.parse().ok()).collect::<Option<Vec<i64>>>()?;
-    let anew: Vec<String> = words[1..].iter().map(i64::to_string).collect();
-    let well_written = first == format!("cmd={}\n", words[0])
-        && second == format!("args={}\n", anew.join(" "))
-        && first.len().max(second.len()) <= MOST_BYTES + 1;
-    well_written.then_some(words)
-}
-
 /// An answer as document 01's lines.
 fn lines_of(answered: Result<Answer<'_>, Refusal>) -> String {
     match answered {
@@ -221,56 +212,39 @@ fn lines_of(answered: Result<Answer<'_>, Refusal>) -> String {
     }
 }
 
-/// The words as a typed command, if there is one that says them.
-fn typed(words: &[i64]) -> Option<Command> {
-    Some(match *words {
-        [1, value] => Command::Signal { value },
-        [2, ref cells @ ..] => Command::Computed { formula: formula(cells)? },
-        [3, owner, ref cells @ ..] => {
-            Command::Effect { owner: owner_of(owner), formula: formula(cells)? }
-        }
-        [4, owner] => Command::Scope { owner: owner_of(owner) },
-        [5, node, value] => Command::Set { node: Node(node), value },
-        [6, node, amount] => Command::Add { node: Node(node), amount },
-        [7, node] => Command::Read { node: Node(node) },
-        [8, node] => Command::Dispose { node: Node(node) },
-        [9] => Command::Start,
-        [10] => Command::End,
-        _ => return None,
-    })
-}
-
-fn owner_of(word: i64) -> Option<Node> {
-    (word != -1).then_some(Node(word))
-}
-
-/// The formula, if the words are those of exactly one expression.
-fn formula(words: &[i64]) -> Option<Formula> {
-    let (cells, over) = words.as_chunks();
-    let (formula, rest) = expression(cells)?;
-    (over.is_empty() && rest.is_empty()).then_some(formula)
-}
-
-/// The first expression, and the cells behind it.
-fn expression(cells: &[[i64; 2]]) -> Option<(Formula, &[[i64; 2]])> {
-    let (&[code, operand], rest) = cells.split_first()?;
-    let join: fn(Formula, Formula) -> Formula = match (code, operand) {
-        (1, _) => return Some((constant(operand), rest)),
-        (2, _) => return Some((read(Node(operand)), rest)),
-        (3, 0) => sum,
-        (4, 0) => difference,
-        (5, 0) => minimum,
-        (6, 0) => maximum,
-        (7, 0) => less,
-        (8, 0) => {
-            let (condition, rest) = expression(rest)?;
-            let (then, rest) = expression(rest)?;
-            let (otherwise, rest) = expression(rest)?;
-            return Some((choose(condition, then, otherwise), rest));
-        }
-        _ => return None,
+/// What the records say, in the lines of the oracle's dump.
+fn seen(tables: &Tables) -> String {
+    let list = |nodes: &mut dyn Iterator<Item = Node>| {
+        nodes.map(|node| node.0.to_string()).collect::<Vec<_>>().join(",")
     };
-    let (a, rest) = expression(rest)?;
-    let (b, rest) = expression(rest)?;
-    Some((join(a, b), rest))
+    let word = |value: Option<i64>| value.map_or("none".to_string(), |value| value.to_string());
+    let mut lines = format!("depth={}\nqueue={}\n", tables.depth(), list(&mut tables.queue()));
+    for record in tables.records() {
+        lines += &format!(
+            "node={} flags={} value={} pending={} deps={}\n",
+            record.node().0,
+            record.flags().0,
+            word(record.value()),
+            word(record.pending()),
+            list(&mut record.dependencies()),
+        );
+    }
+    lines
+}
+
+/// An answer with its dump, but for what no record says: the cycle, the versions of links, the lists of subscribers.
+fn without_versions(answer: &str) -> String {
+    let mut lines = String::new();
+    for line in answer.lines().filter(|line| !line.starts_with("cycle=")) {
+        match line.split_once(" subs=").and_then(|(node, _)| node.split_once(" deps=")) {
+            None => lines += line,
+            Some((node, links)) => {
+                let nodes: Vec<&str> =
+                    links.split(',').map(|link| link.split(':').next().unwrap_or("")).collect();
+                lines += &format!("{node} deps={}", nodes.join(","));
+            }
+        }
+        lines.push('\n');
+    }
+    lines
 }

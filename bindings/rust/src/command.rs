@@ -20,7 +20,8 @@ impl fmt::Display for Node {
 /// use simmerthread::{Command, Node, sum};
 /// let made = Command::Effect { owner: None, formula: sum(Node(0), 1) };
 /// assert_eq!(made.words(), [3, -1, 3, 0, 2, 0, 1, 1]);
-/// assert_eq!(made.to_string(), "effect sum(#0, 1)");
+/// assert_eq!(made.to_string(), "effect #0 + 1");
+/// assert_eq!(Command::from_words(&made.words()), Some(made));
 /// ```
 #[derive(Clone, Debug, PartialEq, Eq, Hash)]
 pub enum Command {
@@ -84,6 +85,62 @@ impl Command {
         words
     }
 
+    /// The command of these words, if there is one that says them. Whether it is accepted, the engine decides.
+    pub fn from_words(words: &[i64]) -> Option<Command> {
+        let formula = Formula::from_words;
+        Some(match *words {
+            [1, value] => Command::Signal { value },
+            [2, ref cells @ ..] => Command::Computed { formula: formula(cells)? },
+            [3, owner, ref cells @ ..] => {
+                Command::Effect { owner: owner_of(owner), formula: formula(cells)? }
+            }
+            [4, owner] => Command::Scope { owner: owner_of(owner) },
+            [5, node, value] => Command::Set { node: Node(node), value },
+            [6, node, amount] => Command::Add { node: Node(node), amount },
+            [7, node] => Command::Read { node: Node(node) },
+            [8, node] => Command::Dispose { node: Node(node) },
+            [9] => Command::Start,
+            [10] => Command::End,
+            _ => return None,
+        })
+    }
+
+    /// Its text, with other words for its nodes.
+    pub fn named<D: fmt::Display>(&self, name: impl Fn(Node) -> D) -> String {
+        let mut text = String::new();
+        self.write(&mut text, &name).expect("a string takes all");
+        text
+    }
+
+    fn write<D: fmt::Display>(
+        &self,
+        out: &mut dyn fmt::Write,
+        name: &dyn Fn(Node) -> D,
+    ) -> fmt::Result {
+        let owned = |owner: &Option<Node>| {
+            owner.map_or(String::new(), |owner| format!(" owned by {}", name(owner)))
+        };
+        match self {
+            Command::Signal { value } => write!(out, "signal {value}"),
+            Command::Computed { formula } => {
+                out.write_str("computed ")?;
+                formula.write(out, name)
+            }
+            Command::Effect { owner, formula } => {
+                out.write_str("effect ")?;
+                formula.write(out, name)?;
+                out.write_str(&owned(owner))
+            }
+            Command::Scope { owner } => write!(out, "scope{}", owned(owner)),
+            Command::Set { node, value } => write!(out, "set {} to {value}", name(*node)),
+            Command::Add { node, amount } => write!(out, "add {amount} to {}", name(*node)),
+            Command::Read { node } => write!(out, "read {}", name(*node)),
+            Command::Dispose { node } => write!(out, "dispose of {}", name(*node)),
+            Command::Start => out.write_str("start a batch"),
+            Command::End => out.write_str("end a batch"),
+        }
+    }
+
     /// The same words into a list that may have room already.
     pub(crate) fn write_words(&self, words: &mut Vec<i64>) {
         words.clear();
@@ -113,23 +170,12 @@ fn owner_word(owner: Option<Node>) -> i64 {
     owner.map_or(-1, |node| node.0)
 }
 
+fn owner_of(word: i64) -> Option<Node> {
+    (word != -1).then_some(Node(word))
+}
+
 impl fmt::Display for Command {
     fn fmt(&self, out: &mut fmt::Formatter<'_>) -> fmt::Result {
-        match self {
-            Command::Signal { value } => write!(out, "signal {value}"),
-            Command::Computed { formula } => write!(out, "computed {formula}"),
-            Command::Effect { owner: None, formula } => write!(out, "effect {formula}"),
-            Command::Effect { owner: Some(owner), formula } => {
-                write!(out, "effect {formula} owned by {owner}")
-            }
-            Command::Scope { owner: None } => write!(out, "scope"),
-            Command::Scope { owner: Some(owner) } => write!(out, "scope owned by {owner}"),
-            Command::Set { node, value } => write!(out, "set {node} to {value}"),
-            Command::Add { node, amount } => write!(out, "add {amount} to {node}"),
-            Command::Read { node } => write!(out, "read {node}"),
-            Command::Dispose { node } => write!(out, "dispose of {node}"),
-            Command::Start => write!(out, "start"),
-            Command::End => write!(out, "end"),
-        }
+        self.write(out, &|node| node)
     }
 }

@@ -5,6 +5,9 @@
 //! [`Tables`] owns the words that the library is lent. Each method is one command; what it answers, and every word it leaves,
 //! is determined by document 01 and proved. A refused command is an [`Err`] with a [`Refusal`], and has changed nothing.
 //!
+//! For people there are [`Record`]s, which show the tables, [`Script`], which reads the operator's lines, and commands and formulas that
+//! print as one would write them. The program `show`, behind `./steps` and `./graph`, is made of these.
+//!
 //! ```
 //! use simmerthread::{Refusal, Room, Run, Tables, choose, difference, less, sum};
 //!
@@ -44,13 +47,18 @@
 mod answer;
 mod command;
 mod formula;
+mod record;
 mod refusal;
+mod rows;
+mod script;
 mod tables;
 
 pub use answer::{Answer, Run};
 pub use command::{Command, Node};
 pub use formula::{Formula, choose, constant, difference, less, maximum, minimum, read, sum};
+pub use record::{Flags, Kind, Record};
 pub use refusal::Refusal;
+pub use script::{Script, Unreadable};
 pub use tables::{Room, Tables};
 
 /// The examples of the host's page are run too.

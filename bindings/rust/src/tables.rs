@@ -1,6 +1,8 @@
 //! The tables, and the calls of the library on them.
 
-use crate::{Answer, Command, Formula, Node, Refusal};
+use crate::record::{node, size};
+use crate::rows::*;
+use crate::{Answer, Command, Formula, Kind, Node, Record, Refusal};
 
 mod library {
     //! `include/simmerthread.h`: a slice is a pointer and a length in words.
@@ -76,10 +78,10 @@ fn words<T: Default + Clone>(
 /// ```
 #[derive(Clone, Debug)]
 pub struct Tables {
-    nodes: Box<[u64]>,
-    links: Box<[u64]>,
-    values: Box<[i64]>,
-    cells: Box<[i64]>,
+    pub(crate) nodes: Box<[u64]>,
+    pub(crate) links: Box<[u64]>,
+    pub(crate) values: Box<[i64]>,
+    pub(crate) cells: Box<[i64]>,
     log: Box<[i64]>,
     /// The words of the command being sent, kept for their room.
     words: Vec<i64>,
@@ -239,5 +241,61 @@ impl Tables {
     /// Ends a batch. If it was the last that is open, the effects run.
     pub fn end(&mut self) -> Result<Answer<'_>, Refusal> {
         self.command(&Command::End)
+    }
+
+    /// The node of this number; none if it was never made.
+    pub fn record(&self, node: Node) -> Option<Record<'_>> {
+        let place = usize::try_from(node.0).ok()?;
+        (place < self.count()).then(|| Record::new(self, place))
+    }
+
+    /// All nodes, gone ones too, in number order.
+    pub fn records(&self) -> impl ExactSizeIterator<Item = Record<'_>> {
+        (0..self.count()).map(|place| Record::new(self, place))
+    }
+
+    fn count(&self) -> usize {
+        size(self.nodes[COUNT])
+    }
+
+    /// How many batches are open.
+    pub fn depth(&self) -> usize {
+        size(self.nodes[DEPTH])
+    }
+
+    /// The effects that wait for the end of the batch, the next to run first. A gone one that is still there does not run.
+    pub fn queue(&self) -> impl ExactSizeIterator<Item = Node> {
+        (0..size(self.nodes[QUEUE])).map(|i| node(size(self.nodes[NODE * (i + 1) + QUEUE])))
+    }
+
+    /// How much the tables hold at most.
+    pub fn room(&self) -> Room {
+        Room {
+            nodes: self.nodes.len() / NODE - 1,
+            links: self.links.len() / LINK - 1,
+            cells: self.cells.len() / CELL,
+            rows: self.log.len() / ROW,
+        }
+    }
+
+    /// How much of the room is taken: nodes made, links kept in reserve, cells written, and the rows that a flush wants.
+    ///
+    /// ```
+    /// use simmerthread::{Room, Tables};
+    /// let mut tables = Tables::new(Room::PROGRAM).unwrap();
+    /// let sale = tables.signal(5)?;
+    /// tables.effect(None, sale)?;
+    /// assert_eq!(tables.taken(), Room { nodes: 2, links: 2, cells: 1, rows: 1 });
+    /// assert_eq!(tables.room(), Room::PROGRAM);
+    /// # Ok::<(), simmerthread::Refusal>(())
+    /// ```
+    pub fn taken(&self) -> Room {
+        let live = |record: &Record<'_>| record.kind() == Kind::Effect && !record.is_gone();
+        Room {
+            nodes: self.count(),
+            links: self.records().map(|record| record.reserve()).sum(),
+            cells: size(self.nodes[USED]),
+            rows: self.records().filter(live).count(),
+        }
     }
 }
