@@ -41,13 +41,13 @@ impl fmt::Display for Kind {
 pub struct Flags(pub u8);
 
 impl Flags {
-    /// It has a value that may change: a signal, or a computed that was worked out.
+    /// A signal, or a computed that was worked out.
     pub const MUTABLE: Flags = Flags(1);
     /// An effect that is not queued.
     pub const WATCHING: Flags = Flags(2);
-    /// Of a run that reads what it changes; never set at rest.
+    /// Never set at rest.
     pub const RECURSED_CHECK: Flags = Flags(4);
-    /// Likewise.
+    /// Never set at rest.
     pub const RECURSED: Flags = Flags(8);
     /// Its value is not the one to be read: a pending one waits, or the formula must be worked out.
     pub const DIRTY: Flags = Flags(16);
@@ -136,10 +136,11 @@ impl<'a> Record<'a> {
     /// What it is.
     pub fn kind(&self) -> Kind {
         match self.word(KIND) {
-            1 => Kind::Signal,
-            2 => Kind::Computed,
-            3 => Kind::Effect,
-            _ => Kind::Scope,
+            SIGNAL => Kind::Signal,
+            COMPUTED => Kind::Computed,
+            EFFECT => Kind::Effect,
+            SCOPE => Kind::Scope,
+            word => unreachable!("no kind is {word} in well-formed tables"),
         }
     }
 

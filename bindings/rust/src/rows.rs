@@ -32,25 +32,33 @@ pub const PENDING: usize = 2;
 pub const CELL: usize = 2;
 pub const ROW: usize = 2;
 
+/// Kinds of a node.
+pub const SIGNAL: u64 = 1;
+pub const COMPUTED: u64 = 2;
+pub const EFFECT: u64 = 3;
+pub const SCOPE: u64 = 4;
+
 #[cfg(test)]
 mod tests {
+    /// The name and the value of a line `pub const NAME: TYPE = VALUE;`.
+    fn constant(line: &str) -> Option<(&str, &str)> {
+        let (name, rest) = line.strip_prefix("pub const ")?.split_once(": ")?;
+        Some((name, rest.split_once(" = ")?.1))
+    }
+
     #[test]
     fn as_the_engine_has_them() {
-        let theirs = include_str!("../../../crates/primitive/src/rows.rt");
-        let ours = include_str!("rows.rs");
-        let engine_has = |name: &str| theirs.contains(&format!("pub const {name}: u64 = "));
+        let engine: Vec<(&str, &str)> = include_str!("../../../crates/primitive/src/rows.rt")
+            .lines()
+            .filter_map(constant)
+            .collect();
         let mut compared = 0;
-        for line in ours.lines() {
-            let Some((name, value)) =
-                line.strip_prefix("pub const ").and_then(|rest| rest.split_once(": usize = "))
-            else {
-                continue;
-            };
-            if engine_has(name) {
-                assert!(theirs.contains(&format!("pub const {name}: u64 = {value}")), "{line}");
+        for (name, value) in include_str!("rows.rs").lines().filter_map(constant) {
+            if let Some((_, theirs)) = engine.iter().find(|(theirs, _)| *theirs == name) {
+                assert_eq!(value, *theirs, "{name}");
                 compared += 1;
             }
         }
-        assert_eq!(compared, 17);
+        assert_eq!(compared, 21);
     }
 }

@@ -112,6 +112,21 @@ fn steps_of_every_case() {
 }
 
 #[test]
+fn causes_at_the_limits() {
+    let met = [
+        ("11-batch-depth", "(64 batches are open)"),
+        ("13-cells", "(it has 65 cells)"),
+        ("13-height", "(its height would be 65)"),
+        ("17-owner-depth", "(its owner depth would be 17)"),
+        ("18-nesting", "(it is nested 17 deep)"),
+    ];
+    for (case, cause) in met {
+        let steps = shown("steps", &text(&format!("oracle/cases/{case}.in")));
+        assert!(steps.contains(cause), "{case}");
+    }
+}
+
+#[test]
 fn what_cannot_be_read() {
     for (name, _, script) in cases("oracle/cases/malformed") {
         let steps = show("steps", &script);
