@@ -1,5 +1,5 @@
 -- What document 01 says of an accepted command, from any well-formed tables: the theorems to read. Their labour stands elsewhere. Assumes nothing.
--- Beside them: `command-kept`, `never-stuck` (Accepted), `command-stays` (Kept), `links-bound` (Bound), `given-exactly`, `end-refused`, `refused-unchanged` (Refused), `emptying-answers`, `empty-is` (Emptied), and the laws of Steps.
+-- Beside them: `command-kept`, `never-stuck` (Accepted), `command-stays` (Kept), `links-bound` (Bound), `given-exactly`, `end-refused`, `refused-unchanged` (Refused), `emptying-answers`, `empty-is` (Emptied), `rows-in-order` (InOrder), and the laws of Steps.
 use mathlib.Core.Path.{_≡_, refl, sym, ap, _∙_, subst}
 use mathlib.Core.Logic.{_⊎_, inl, _↔_}
 use mathlib.Core.Bool.{true, false}

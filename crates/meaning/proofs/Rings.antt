@@ -151,7 +151,7 @@ module _ (all : Bool) (R : ℕ → St → St → Type 0) (r : Counts all R) wher
         after (suc m) s y _ (after (suc m) s (o .st) y (equal (1 + m) (suc m) s (o .st) (omega arith) (r .then 1 m s t (o .st) (r .begins s n f5) (evalW-count n (s .form n) t))) (r .stores (o .st) n (o .val) f1))
         (purge-ring (R 0) (r .drops) y n)
 
-    upd-count : (k : Kind) (s : St) (n : ℕ) → R (inUpdate fr c k s n) s (updW fr k s n .st)
+    pub upd-count : (k : Kind) (s : St) (n : ℕ) → R (inUpdate fr c k s n) s (updW fr k s n .st)
     unfolding updW updSignal inUpdate
     upd-count signal s n = r .moves s n
     upd-count computed s n = computed-count s n
@@ -162,7 +162,7 @@ module _ (all : Bool) (R : ℕ → St → St → Type 0) (r : Counts all R) wher
     unfolding steady
     steady-count m was s t d p = branch (R m s) (sameSlots was (t .subs d) && not (isNil was)) (λ e. p) (λ e. after m s t _ p (r .drops .stops t))
 
-    checkOn-count : (u : ℕ) (ls : List ℕ) (s : St) → R (inCheckOn fr c u s ls) s (checkOn fr u s ls .st)
+    pub checkOn-count : (u : ℕ) (ls : List ℕ) (s : St) → R (inCheckOn fr c u s ls) s (checkOn fr u s ls .st)
     unfolding checkOn inCheckOn
     checkOn-count u [] s = r .drops .same s
     checkOn-count u (l ∷ ls) s =
@@ -177,7 +177,7 @@ module _ (all : Bool) (R : ℕ → St → St → Type 0) (r : Counts all R) wher
         (λ g. r .then (c s d) (inCheckOn fr c u t ls) s t _ p (checkOn-count u ls t)))
         (λ f. checkOn-count u ls s))
 
-    checkW-count : (s : St) (u : ℕ) → R (inCheck fr c s u) s (checkW fr s u .st)
+    pub checkW-count : (s : St) (u : ℕ) → R (inCheck fr c s u) s (checkW fr s u .st)
     unfolding checkW inCheck inCheckOn
     checkW-count s u = go (deps s u) refl
       where
@@ -270,6 +270,15 @@ module _ (R : St → St → Type 0) (r : Renews R) where
   pub fresh-ring : (k : ℕ) (s : St) (n : ℕ) → R s (fresh k s n .st)
   fresh-ring = fresh-count true (λ (m : ℕ). R) uncounted
 
+  pub upd-ring : (k : ℕ) (c : Kind) (s : St) (n : ℕ) → R s (updW (fresh k) c s n .st)
+  upd-ring k = upd-count true (λ (m : ℕ). R) uncounted (fresh k) (countFresh true k) (fresh-ring k)
+
+  pub checkOn-ring : (k u : ℕ) (ls : List ℕ) (s : St) → R s (checkOn (fresh k) u s ls .st)
+  checkOn-ring k = checkOn-count true (λ (m : ℕ). R) uncounted (fresh k) (countFresh true k) (fresh-ring k)
+
+  pub checkW-ring : (k : ℕ) (s : St) (u : ℕ) → R s (checkW (fresh k) s u .st)
+  checkW-ring k = checkW-count true (λ (m : ℕ). R) uncounted (fresh k) (countFresh true k) (fresh-ring k)
+
   pub settle-ring : (s : St) (n : ℕ) → R s (settle s n)
   settle-ring = settle-count true (λ (m : ℕ). R) uncounted
 
@@ -310,6 +319,9 @@ pub record Runs (R : St → St → Type 0) : Type 0 where
 module _ (R : St → St → Type 0) (r : Runs R) where
   pub logged-ring : (o : Out) (e : ℕ) → R (o .st) (logged o e)
   logged-ring = logged-count true (λ (m : ℕ). R) (uncounted R (r .renews)) (r .logs)
+
+  pub rerun-ring : (s : St) (e : ℕ) → R s (rerun s e)
+  rerun-ring = rerun-count true (λ (m : ℕ). R) (uncounted R (r .renews)) (r .logs)
 
   pub run-ring : (s : St) (e : ℕ) → R s (run s e)
   run-ring = run-count true (λ (m : ℕ). R) (uncounted R (r .renews)) (r .logs)

@@ -63,7 +63,7 @@ renews = record {
   shallows = λ s n. one (others _ refl (or-first (s .stuck) _));
 }
 
-runs : Runs Steps
+pub runs : Runs Steps
 runs = record { renews = renews; logs = λ s l. plain s _ refl refl }
 
 flush-steps : (q : List ℕ) (s : St) → Steps s (flushOn s q)
