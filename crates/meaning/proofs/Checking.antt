@@ -32,7 +32,7 @@ unfolding steady
 steady-free was t d =
     branch (λ (x : St). x .stuck ≡ false → x ≡ t) (sameSlots was (t .subs d) && not (isNil was)) (λ e z. refl) (λ e z. clash refl z)
 
-tells-free : (t : St) (d : ℕ) → tells t d .stuck ≡ false → t .stuck ≡ false
+pub tells-free : (t : St) (d : ℕ) → tells t d .stuck ≡ false → t .stuck ≡ false
 tells-free t d = branch (λ (x : St). x .stuck ≡ false → t .stuck ≡ false) (several (t .subs d)) (λ e z. or-left (t .stuck) _ z) (λ e z. z)
 
 -- what moves has a flag
@@ -43,13 +43,13 @@ not-bare f e = ap not (or-first (f .mutable) _ e)
 record Comes (u : ℕ) (ls : List ℕ) (s : St) (a : Ans) : Type 0 where
   pub looks : a .st .stuck ≡ false → Looked Updated (along u ls) s (a .st) (a .yes)
 
-record Shows (d : ℕ) (s : St) (a : Ans) : Type 0 where
+pub record Shows (d : ℕ) (s : St) (a : Ans) : Type 0 where
   pub looks : a .st .stuck ≡ false → Looked Updated (at d) s (a .st) (a .yes)
 
 record Does (d : ℕ) (s : St) (a : Ans) : Type 0 where
   pub updates : a .st .stuck ≡ false → Updated s d (a .st) (a .yes)
 
-abbrev Asked : ℕ → Type 0
+abbrev pub Asked : ℕ → Type 0
 Asked k = (s : St) (d : ℕ) → s .fl d .mutable ≡ true → Shows d s (fresh k s d)
 
 -- the first link of those that are left: t and b are what its dependency comes to, more and past what the links after it come to
@@ -76,7 +76,13 @@ one-node s d first c now later m at-once sticks checked after =
     (λ y. record { looks = λ z. clears f p (subst (Looked Updated (along d (deps s d)) s (c .st)) y (checked .looks z)) }))
     (λ p. record { looks = λ z. clean f p })))
 
-module _ (k : ℕ) (asked : Asked k) where
+-- ---- asked of the ring: what is stuck stays so, and kinds stay
+record Ring : Type 0 where
+  pub along-sticks : (k u : ℕ) (ls : List ℕ) (s : St) → Sticks s (checkOn (fresh k) u s ls .st)
+  pub update-sticks : (k : ℕ) (c : Kind) (s : St) (n : ℕ) → Sticks s (updW (fresh k) c s n .st)
+  pub kinds : (k : ℕ) (s : St) (u n : ℕ) → checkW (fresh k) s u .st .kind n ≡ s .kind n
+
+module _ (ring : Ring) (k : ℕ) (asked : Asked k) where
   -- a dependency d, where the subscriber list that the walk goes back by is what it was
   looks-back : (was : List ℕ) (s : St) (d : ℕ) → s .fl d .mutable ≡ true → steady was (fresh k s d .st) d .stuck ≡ false → Looked Updated (at d) s (steady was (fresh k s d .st) d) (fresh k s d .yes)
   looks-back was s d m z =
@@ -90,7 +96,7 @@ module _ (k : ℕ) (asked : Asked k) where
   looks-along u (l ∷ ls) s =
       let d = s .dep l in
       let t = steady (s .subs d) (fresh k s d .st) d in
-      one-link u l ls s t (fresh k s d .yes) (checkOn (fresh k) u t ls) (checkOn (fresh k) u s ls) (looks-back (s .subs d) s d) (checkOn-ring Sticks (runs-stick .renews) k u ls t) (looks-along u ls t) (looks-along u ls s)
+      one-link u l ls s t (fresh k s d .yes) (checkOn (fresh k) u t ls) (checkOn (fresh k) u s ls) (looks-back (s .subs d) s d) (ring .along-sticks k u ls t) (looks-along u ls t) (looks-along u ls s)
 
   looks-whole : (s : St) (u : ℕ) → Comes u (deps s u) s (checkW (fresh k) s u)
   unfolding checkW
@@ -100,18 +106,27 @@ module _ (k : ℕ) (asked : Asked k) where
   unfolding fresh freshW pendingW
   looks-at s d m =
       let c = checkW (fresh k) s d in
-      let kept : c .st .kind d ≡ s .kind d = ap (λ (f : Fixed). f .nodes .kind d) (checkW-ring Still renews-still k s d .same) in
       one-node s d (ans (firstW (fresh k) s d) false) c (updW (fresh k) (s .kind d) s d) (updW (fresh k) (s .kind d) (c .st) d) m (record { updates = λ z. (k, refl, z) })
-      (upd-ring Sticks (runs-stick .renews) k (s .kind d) (c .st) d) (looks-whole s d) (record { updates = λ z. (k, ap (λ (x : Kind). updW (fresh k) x (c .st) d) kept, z) })
+      (ring .update-sticks k (s .kind d) (c .st) d) (looks-whole s d) (record { updates = λ z. (k, ap (λ (x : Kind). updW (fresh k) x (c .st) d) (ring .kinds k s d d), z) })
 
-fresh-looks : (k : ℕ) → Asked k
+all-look : (ring : Ring) (k : ℕ) → Asked k
 unfolding fresh
-fresh-looks zero = λ s d m. record { looks = λ z. clash refl z }
-fresh-looks (suc k) = looks-at k (fresh-looks k)
+all-look ring zero = λ s d m. record { looks = λ z. clash refl z }
+all-look ring (suc k) = looks-at ring k (all-look ring k)
 
--- with any budget
+-- ---- so it is, with any budget
+the-ring : Ring
+the-ring = record {
+  along-sticks = checkOn-ring Sticks (runs-stick .renews);
+  update-sticks = upd-ring Sticks (runs-stick .renews);
+  kinds = λ k s u n. ap (λ (f : Fixed). f .nodes .kind n) (checkW-ring Still renews-still k s u .same);
+}
+
+pub fresh-looks : (k : ℕ) → Asked k
+fresh-looks = all-look the-ring
+
 pub check-looks : (k : ℕ) (s : St) (u : ℕ) → checkW (fresh k) s u .st .stuck ≡ false → Checks s u (checkW (fresh k) s u .st) (checkW (fresh k) s u .yes)
-check-looks k s u = looks-whole k (fresh-looks k) s u .looks
+check-looks k s u = looks-whole the-ring k (fresh-looks k) s u .looks
 
 -- ---- the specification tells one check, no two, where an update comes to one end
 abbrev pub OneEnd : (St → ℕ → St → Bool → Type 0) → Type 0

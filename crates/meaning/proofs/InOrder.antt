@@ -1,6 +1,6 @@
 -- The order of a command's rows, and the order of the dirty checks in it, from any well-formed tables (specs/Turns, specs/Checks). Assumes nothing.
 use mathlib.Core.Path.{_≡_, refl, sym, ap, _∙_, subst}
-use mathlib.Core.Bool.{true, false}
+use mathlib.Core.Bool.{Bool, true, false}
 use mathlib.Core.List.{List, [], _++_}
 use mathlib.Core.Option.{some}
 use Prim.Native.Nat.{ℕ, _<_}
@@ -11,13 +11,15 @@ use Rattle.primitive.specs.Values.{same}
 use Rattle.primitive.proofs.ValueLaws.{same-yes, yes-same}
 use Rattle.meaning.specs.State.{St, Row, signal, readable, unclean, f17}
 use Rattle.meaning.specs.Setters.{withLog, withDepth}
-use Rattle.meaning.specs.Marks.{marksOf, propagate}
+use Rattle.meaning.specs.Marks.{marksOf, propagate, shallow}
+use Rattle.meaning.specs.Reads.{settleW, fresh}
 use Rattle.meaning.specs.Engine.{flushOn}
 use Rattle.meaning.specs.Words.{Command, makeSignal, makeComputed, makeEffect, makeScope, setTo, addTo, readOf, disposeOf, batchStart, batchEnd, commandOf, nodeOf}
 use Rattle.meaning.specs.Refusals.{asksOf, wrongNode, table}
 use Rattle.meaning.specs.WellFormed.{WellFormed}
-use Rattle.meaning.specs.Commands.{command}
+use Rattle.meaning.specs.Commands.{perform, Answer, command}
 use Rattle.meaning.specs.Outcome.{flushes, Writes, sets, adds}
+use Rattle.meaning.specs.Checks.{at, Looked, Updated}
 use Rattle.meaning.specs.Turns.{InTurn, ends, wrote, FlushBegins, same as as-before, walks, batch}
 use Rattle.meaning.proofs.Laws.{clash, either, false≢true, up-same}
 use Rattle.meaning.proofs.Still.{given}
@@ -28,8 +30,10 @@ use Rattle.meaning.proofs.Frames.{others}
 use Rattle.meaning.proofs.Walking.{i-propagated}
 use Rattle.meaning.proofs.Accepted.{logless, taken, is-signal}
 use Rattle.meaning.proofs.Moments.{flushing-whole}
-use Rattle.meaning.proofs.Turning.{flush-in-turn}
-use Rattle.meaning.proofs.Promised.{same-write-is-nothing, write-flushes, end-runs-queue, walk-in-order, written-well-formed}
+use Rattle.meaning.proofs.Checking.{fresh-looks}
+use Rattle.meaning.proofs.Enough.{spread-free}
+use Rattle.meaning.proofs.Turning.{flush-in-turn, in-turn-one, begins-one}
+use Rattle.meaning.proofs.Promised.{same-write-is-nothing, write-flushes, end-runs-queue, walk-in-order, written-well-formed, nothing-stuck}
 
 module _ (s : St) (rows : ℕ) (ws : List ℤ) (w : WellFormed s) (ok : command true s rows ws .code ≡ 0) (free : s .stuck ≡ false) where
   abbrev ran : List ℕ
@@ -82,3 +86,17 @@ module _ (s : St) (rows : ℕ) (ws : List ℤ) (w : WellFormed s) (ok : command 
   rows-in-order (readOf n) is f = false≢true f
   rows-in-order (disposeOf n) is f = false≢true f
   rows-in-order batchStart is f = false≢true f
+
+  -- and no other rows, and no other order
+  pub no-other-order : (c : Command) → commandOf ws ≡ some c → flushes c (s .depth) ≡ true → (p : St) (r : List ℕ) → FlushBegins s c p → InTurn p (p .queue) r → r ≡ ran
+  no-other-order c is f p r b i = let o = rows-in-order c is f in in-turn-one i (subst (λ (x : St). InTurn x (x .queue) ran) (sym (begins-one b (o .1))) (o .2))
+
+  -- a read of a node that has a value brings it up to date so, and if its value changed its pending subscribers are dirty
+  pub read-in-order : (n : ℤ) → commandOf ws ≡ some (readOf n) → s .fl (nodeOf n) .mutable ≡ true
+      → (x : St) × (b : Bool) × Looked Updated (at (nodeOf n)) (withLog s []) x b × (command true s rows ws .st ≡ elim b [ true ↦ shallow x (nodeOf n) | false ↦ x ])
+  unfolding perform settleW
+  read-in-order n is m =
+      let e = ap (λ (a : Answer). a .st) (performed s rows ws (readOf n) is ok .0) in
+      let r = fresh (s .size) (withLog s []) (nodeOf n) in
+      let z = spread-free r (nodeOf n) (ap (λ (t : St). t .stuck) (sym e) ∙ nothing-stuck s rows ws w free) in
+      (r .st, r .yes, fresh-looks (s .size) (withLog s []) (nodeOf n) m .looks z, e)

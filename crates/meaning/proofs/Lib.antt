@@ -44,6 +44,7 @@ pub mod Unwatched
 pub mod Throughout
 pub mod Stepped
 pub mod Checking
+pub mod Enough
 pub mod Turning
 pub mod NotSo
 pub mod Cycle

@@ -270,6 +270,9 @@ module _ (R : St → St → Type 0) (r : Renews R) where
   pub fresh-ring : (k : ℕ) (s : St) (n : ℕ) → R s (fresh k s n .st)
   fresh-ring = fresh-count true (λ (m : ℕ). R) uncounted
 
+  pub eval-ring : (k u : ℕ) (f : Tree) (s : St) → R s (evalBy (readW (fresh k) u) f s .st)
+  eval-ring k = evalW-count true (λ (m : ℕ). R) uncounted (fresh k) (countFresh true k) (fresh-ring k)
+
   pub upd-ring : (k : ℕ) (c : Kind) (s : St) (n : ℕ) → R s (updW (fresh k) c s n .st)
   upd-ring k = upd-count true (λ (m : ℕ). R) uncounted (fresh k) (countFresh true k) (fresh-ring k)
 

@@ -4,21 +4,27 @@ use mathlib.Core.Logic.{inl}
 use mathlib.Core.Bool.{Bool, true, false}
 use mathlib.Core.List.{List, [], _∷_, _++_, append-assoc, append-nil}
 use Prim.Native.Nat.{ℕ}
+use Rattle.primitive.specs.Values.{value, sum}
 use Rattle.meaning.specs.State.{St, Row, f2}
 use Rattle.meaning.specs.Setters.{withQueue, setFl}
 use Rattle.meaning.specs.Reads.{check}
+use Rattle.meaning.specs.Marks.{withMarks}
 use Rattle.meaning.specs.Engine.{rerun, run, flushOn}
+use Rattle.meaning.specs.Words.{Command, nodeOf}
 use Rattle.meaning.specs.WellFormed.{In}
+use Rattle.meaning.specs.Outcome.{sets, adds}
 use Rattle.meaning.specs.Checks.{Checks}
-use Rattle.meaning.specs.Turns.{InTurn, ends, gone, clean, unchanged, changed, dirty}
-use Rattle.meaning.proofs.Laws.{either, branch}
+use Rattle.meaning.specs.Turns.{InTurn, ends, gone, clean, unchanged, changed, dirty, wrote, FlushBegins, same, walks, batch}
+use Rattle.meaning.proofs.Laws.{clash, false≢true, either, branch}
 use Rattle.meaning.proofs.Rings.{check-ring, rerun-ring}
 use Rattle.meaning.proofs.Still.{Given, Fixed, Still, renews-still}
 use Rattle.meaning.proofs.Steps.{no-flag-no-run}
 use Rattle.meaning.proofs.Flush.{run-queues-nothing, rerun-row, whos}
 use Rattle.meaning.proofs.Inside.{nobody, Static, Inside}
 use Rattle.meaning.proofs.Running.{run-inside}
+use Rattle.meaning.proofs.Ordered.{walked-one}
 use Rattle.meaning.proofs.Checking.{Sticks, runs-stick, was-free, check-looks}
+use Rattle.meaning.proofs.Enough.{checks-one}
 
 -- the rest of the queue, from t on, with what the rows say
 abbrev Rest : St → List ℕ → List Row → Type 0
@@ -74,3 +80,42 @@ module _ (g : Given) (st : Static g) where
       let free = r .stuck ∙ z in
       let t : Turn s e q (run (withQueue s q) e) = either (s .gone e) (λ a. gone-turn s e q a (no-flag-no-run (withQueue s q) e (i .rests e (x .0) (λ y. y) .queued here a))) (λ a. live-turn s e q a) in
       t .comes free (flushOn s (e ∷ q) .log) (flush-in-turn q (run (withQueue s q) e) (r .inside) (run-queues-nothing (withQueue s q) e) free)
+
+-- ---- the specification tells one order, no two
+pub in-turn-one : {s : St} {q r p : List ℕ} → InTurn s q r → InTurn s q p → r ≡ p
+in-turn-one ends ends = refl
+in-turn-one (gone e a f) (gone d b g) = in-turn-one f g
+in-turn-one (gone e a f) (clean d b u v g) = clash a b
+in-turn-one (gone e a f) (unchanged d b u v k g) = clash a b
+in-turn-one (gone e a f) (changed d b u v k g) = clash a b
+in-turn-one (gone e a f) (dirty d b u g) = clash a b
+in-turn-one (clean e a u v f) (gone d b g) = clash b a
+in-turn-one (clean e a u v f) (clean d b x y g) = in-turn-one f g
+in-turn-one (clean e a u v f) (unchanged d b x y k g) = clash y v
+in-turn-one (clean e a u v f) (changed d b x y k g) = clash y v
+in-turn-one (clean e a u v f) (dirty d b x g) = clash x u
+in-turn-one (unchanged e a u v h f) (gone d b g) = clash b a
+in-turn-one (unchanged e a u v h f) (clean d b x y g) = clash v y
+in-turn-one {p = p} (unchanged {q = q} e a u v h f) (unchanged d b x y k g) = in-turn-one f (subst (λ (z : St). InTurn (setFl z e f2) q p) (sym (checks-one _ e _ _ false false h k .0)) g)
+in-turn-one (unchanged e a u v h f) (changed d b x y k g) = false≢true (checks-one _ e _ _ false true h k .1)
+in-turn-one (unchanged e a u v h f) (dirty d b x g) = clash x u
+in-turn-one (changed e a u v h f) (gone d b g) = clash b a
+in-turn-one (changed e a u v h f) (clean d b x y g) = clash v y
+in-turn-one (changed e a u v h f) (unchanged d b x y k g) = false≢true (sym (checks-one _ e _ _ true false h k .1))
+in-turn-one (changed {q = q} e a u v h f) (changed {r = r} d b x y k g) = ap (λ (l : List ℕ). e ∷ l) (in-turn-one f (subst (λ (z : St). InTurn (rerun z e) q r) (sym (checks-one _ e _ _ true true h k .0)) g))
+in-turn-one (changed e a u v h f) (dirty d b x g) = clash x u
+in-turn-one (dirty e a u f) (gone d b g) = clash b a
+in-turn-one (dirty e a u f) (clean d b x y g) = clash u x
+in-turn-one (dirty e a u f) (unchanged d b x y k g) = clash u x
+in-turn-one (dirty e a u f) (changed d b x y k g) = clash u x
+in-turn-one (dirty e a u f) (dirty d b x g) = ap (λ (l : List ℕ). e ∷ l) (in-turn-one f g)
+
+pub begins-one : {s p q : St} {c : Command} → FlushBegins s c p → FlushBegins s c q → p ≡ q
+begins-one (same a e) (same b f) = refl
+begins-one (same (sets n v) e) (walks (sets m w) f h) = absurd (f e)
+begins-one (same (adds n v) e) (walks (adds m w) f h) = absurd (f e)
+begins-one (walks (sets n v) f h) (same (sets m w) e) = absurd (f e)
+begins-one (walks (adds n v) f h) (same (adds m w) e) = absurd (f e)
+begins-one {s = s} (walks (sets n v) f h) (walks (sets m w) g i) = ap (withMarks (wrote s (nodeOf n) (value v))) (walked-one h i)
+begins-one {s = s} (walks (adds n v) f h) (walks (adds m w) g i) = ap (withMarks (wrote s (nodeOf n) (sum (s .sto (nodeOf n)) (value v)))) (walked-one h i)
+begins-one batch batch = refl
