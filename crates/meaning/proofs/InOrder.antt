@@ -20,7 +20,7 @@ use Rattle.meaning.specs.WellFormed.{WellFormed}
 use Rattle.meaning.specs.Commands.{perform, Answer, command}
 use Rattle.meaning.specs.Outcome.{flushes, Writes, sets, adds}
 use Rattle.meaning.specs.Checks.{at, Looked, Updated}
-use Rattle.meaning.specs.Turns.{InTurn, ends, wrote, FlushBegins, same as as-before, walks, batch}
+use Rattle.meaning.specs.Turns.{InTurn, ends, wrote, FlushBegins, as-before, walks, batch}
 use Rattle.meaning.proofs.Laws.{clash, either, false≢true, up-same}
 use Rattle.meaning.proofs.Still.{given}
 use Rattle.meaning.proofs.Flush.{whos}

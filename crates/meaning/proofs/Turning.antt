@@ -14,7 +14,7 @@ use Rattle.meaning.specs.Words.{Command, nodeOf}
 use Rattle.meaning.specs.WellFormed.{In}
 use Rattle.meaning.specs.Outcome.{sets, adds}
 use Rattle.meaning.specs.Checks.{Checks}
-use Rattle.meaning.specs.Turns.{InTurn, ends, gone, clean, unchanged, changed, dirty, wrote, FlushBegins, same, walks, batch}
+use Rattle.meaning.specs.Turns.{InTurn, ends, gone, clean, unchanged, changed, dirty, wrote, FlushBegins, as-before, walks, batch}
 use Rattle.meaning.proofs.Laws.{clash, false≢true, either, branch}
 use Rattle.meaning.proofs.Rings.{check-ring, rerun-ring}
 use Rattle.meaning.proofs.Still.{Given, Fixed, Still, renews-still}
@@ -111,11 +111,11 @@ in-turn-one (dirty e a u f) (changed d b x y k g) = clash u x
 in-turn-one (dirty e a u f) (dirty d b x g) = ap (λ (l : List ℕ). e ∷ l) (in-turn-one f g)
 
 pub begins-one : {s p q : St} {c : Command} → FlushBegins s c p → FlushBegins s c q → p ≡ q
-begins-one (same a e) (same b f) = refl
-begins-one (same (sets n v) e) (walks (sets m w) f h) = absurd (f e)
-begins-one (same (adds n v) e) (walks (adds m w) f h) = absurd (f e)
-begins-one (walks (sets n v) f h) (same (sets m w) e) = absurd (f e)
-begins-one (walks (adds n v) f h) (same (adds m w) e) = absurd (f e)
+begins-one (as-before a e) (as-before b f) = refl
+begins-one (as-before (sets n v) e) (walks (sets m w) f h) = absurd (f e)
+begins-one (as-before (adds n v) e) (walks (adds m w) f h) = absurd (f e)
+begins-one (walks (sets n v) f h) (as-before (sets m w) e) = absurd (f e)
+begins-one (walks (adds n v) f h) (as-before (adds m w) e) = absurd (f e)
 begins-one {s = s} (walks (sets n v) f h) (walks (sets m w) g i) = ap (withMarks (wrote s (nodeOf n) (value v))) (walked-one h i)
 begins-one {s = s} (walks (adds n v) f h) (walks (adds m w) g i) = ap (withMarks (wrote s (nodeOf n) (sum (s .sto (nodeOf n)) (value v)))) (walked-one h i)
 begins-one batch batch = refl
