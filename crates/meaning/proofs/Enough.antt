@@ -1,5 +1,5 @@
 -- A budget that is enough: where a read, a check or an update is not stuck, any greater budget gives the same. So an update comes to one end, and specs/Checks and specs/Turns tell one check and one order of rows. Assumes nothing.
-use mathlib.Core.Path.{_≡_, refl, sym, ap, _∙_, subst}
+use mathlib.Core.Path.{_≡_, refl, sym, ap, _∙_}
 use mathlib.Core.Bool.{Bool, true, false, not, _&&_}
 use mathlib.Core.List.{List, [], _∷_, _++_}
 use Prim.Native.Nat.{ℕ, zero, suc, _+_, _≤_}
@@ -8,7 +8,7 @@ use Rattle.primitive.specs.Values.{same, isZero}
 use Rattle.formula.specs.Trees.{Tree, constant, read, two, choose, apply}
 use Rattle.meaning.specs.State.{St, Kind, signal, computed, effect, scope, deps, bare, f1, f5, withPending, raised}
 use Rattle.meaning.specs.Setters.{setFl, setSto, withCycle}
-use Rattle.meaning.specs.Links.{isNil, several, link, purge, rewind}
+use Rattle.meaning.specs.Links.{isNil, link, purge, rewind}
 use Rattle.meaning.specs.Marks.{shallow}
 use Rattle.meaning.specs.Reads.{Ans, ans, Out, out, evalBy, settleW, readW, firstW, updComputed, updW, sameSlots, steady, checkOn, checkW, pendingW, freshW, fresh}
 use Rattle.meaning.specs.Checks.{tells, Updated, Checks}

@@ -1,4 +1,5 @@
--- The order of the dirty check: the plain depth-first look along dependency links, from the first on, up to one that has changed. It has no budget and no stack.
+-- The order of the dirty check, which document 01 leaves to the Rust (`check_dirty`): the plain depth-first look along dependency links, from the first on, up to one that has changed.
+-- It has no budget and no stack.
 use mathlib.Core.Path.{_≡_}
 use mathlib.Core.Bool.{Bool, true, false}
 use mathlib.Core.List.{List, [], _∷_}
@@ -18,8 +19,7 @@ pub data Place : Type 0 where
 abbrev pub tells : St → ℕ → St
 tells s d = elim (several (s .subs d)) [ true ↦ shallow s d | false ↦ s ]
 
--- U s d t b: an update of d goes from s to t, and b says whether its value changed
--- from s to t; true: a dependency of u has changed, or d itself
+-- from s to t; true: a dependency of u has changed, or d itself. U s d t b: an update of d goes from s to t, and b says whether its value changed
 pub data Looked (U : St → ℕ → St → Bool → Type 0) : Place → St → St → Bool → Type 0 where
   -- no link is left, and nothing has changed
   ends : {s : St} {u : ℕ} → Looked U (along u []) s s false

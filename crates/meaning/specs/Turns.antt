@@ -1,6 +1,6 @@
--- The order of rows: who runs in a flush, from document 01, "Values, writes, flush". The queue is as it stands when the flush begins, and each effect in it has one turn, from the first on.
+-- The order of rows, from document 01, "Values, writes, flush": the queue is as it stands when the flush begins, and each effect in it has one turn, from the first on.
 use mathlib.Core.Path.{_≡_}
-use mathlib.Core.Bool.{Bool, true, false}
+use mathlib.Core.Bool.{true, false}
 use mathlib.Core.List.{List, [], _∷_}
 use Prim.Native.Nat.{ℕ}
 use Rattle.primitive.specs.declared.values.Value.{Value}
