@@ -35,7 +35,7 @@ wrote s n x = setFl (setPend (withLog s []) n x) n f17
 pub data FlushBegins (s : St) : Command → St → Type 0 where
   -- the old pending value: nothing is queued
   as-before : {c : Command} {n : ℕ} {x : Value} → Writes s c n x → s .pend n ≡ x → FlushBegins s c (withLog s [])
-  -- a new one: what the walk from the signal's subscribers queues
+  -- a new one: what the walk from the signal's subscribers queues, as at depth 0 the queue was empty
   walks : {c : Command} {n : ℕ} {x : Value} {m : Marks} → Writes s c n x → (s .pend n ≡ x → ⊥) → Walked (wrote s n x) (marksOf (wrote s n x)) (s .subs n) m
       → FlushBegins s c (withMarks (wrote s n x) m)
   -- the end of the outermost batch: what is queued
