@@ -10,21 +10,11 @@ use Rattle.meaning.specs.Links.{isNil, several}
 use Rattle.meaning.specs.Reads.{Ans, ans, firstW, updW, sameSlots, steady, checkOn, checkW, pendingW, freshW, fresh}
 use Rattle.meaning.specs.Moments.{Steps}
 use Rattle.meaning.specs.Checks.{Place, along, at, tells, Looked, ends, knows, passes, goes-on, stops, clean, updates, clears, follows, Updated, Checks}
-use Rattle.meaning.proofs.Laws.{clash, false≢true, either, branch, or-first, or-left}
-use Rattle.meaning.proofs.Rings.{Runs, weaker-renews, upd-ring, checkOn-ring, checkW-ring}
+use Rattle.meaning.proofs.Laws.{clash, false≢true, branch, or-first, or-left}
+use Rattle.meaning.proofs.Rings.{upd-ring, checkOn-ring, checkW-ring}
 use Rattle.meaning.proofs.Still.{Still, Fixed, renews-still}
-use Rattle.meaning.proofs.Throughout.{steps-stick}
+use Rattle.meaning.proofs.Throughout.{unstuck}
 use Rattle.meaning.proofs.Stepped.{runs}
-
--- ---- what is stuck stays so: what is not stuck was not
-abbrev pub Sticks : St → St → Type 0
-Sticks s t = s .stuck ≡ true → t .stuck ≡ true
-
-pub runs-stick : Runs Sticks
-runs-stick = record { renews = weaker-renews Steps Sticks steps-stick (λ s t x p q e. q (p e)) (runs .renews); logs = λ s l e. e }
-
-pub was-free : (s t : St) → Sticks s t → t .stuck ≡ false → s .stuck ≡ false
-was-free s t p z = either (s .stuck) (λ e. clash (p e) z) (λ e. e)
 
 -- ---- single steps
 steady-free : (was : List ℕ) (t : St) (d : ℕ) → steady was t d .stuck ≡ false → steady was t d ≡ t
@@ -54,32 +44,32 @@ Asked k = (s : St) (d : ℕ) → s .fl d .mutable ≡ true → Shows d s (fresh 
 
 -- the first link of those that are left: t and b are what its dependency comes to, more and past what the links after it come to
 one-link : (u l : ℕ) (ls : List ℕ) (s t : St) (b : Bool) (more past : Ans)
-    → (s .fl (s .dep l) .mutable ≡ true → t .stuck ≡ false → Looked Updated (at (s .dep l)) s t b) → Sticks t (more .st) → Comes u ls t more → Comes u ls s past
+    → (s .fl (s .dep l) .mutable ≡ true → t .stuck ≡ false → Looked Updated (at (s .dep l)) s t b) → Steps t (more .st) → Comes u ls t more → Comes u ls s past
     → Comes u (l ∷ ls) s (elim (s .fl u .dirty) [ true ↦ ans s true | false ↦ elim (s .fl (s .dep l) .mutable) [ true ↦ elim b [ true ↦ ans (tells t (s .dep l)) true | false ↦ more ] | false ↦ past ] ])
-one-link u l ls s t b more past seen sticks then beyond =
+one-link u l ls s t b more past seen steps then beyond =
     branch (Comes u (l ∷ ls) s) (s .fl u .dirty) (λ e. record { looks = λ z. knows e })
     (λ e. branch (Comes u (l ∷ ls) s) (s .fl (s .dep l) .mutable)
     (λ m. branch (Comes u (l ∷ ls) s) b
     (λ y. record { looks = λ z. stops e m (subst (Looked Updated (at (s .dep l)) s t) y (seen m (tells-free t (s .dep l) z))) })
-    (λ y. record { looks = λ z. goes-on e m (subst (Looked Updated (at (s .dep l)) s t) y (seen m (was-free t (more .st) sticks z))) (then .looks z) }))
+    (λ y. record { looks = λ z. goes-on e m (subst (Looked Updated (at (s .dep l)) s t) y (seen m (unstuck t (more .st) steps z))) (then .looks z) }))
     (λ m. record { looks = λ z. passes e m (beyond .looks z) }))
 
 -- a dependency d, by its flags: c is what its own check comes to, now and later what an update of it comes to without and after that check
-one-node : (s : St) (d : ℕ) (first c now later : Ans) → s .fl d .mutable ≡ true → Does d s now → Sticks (c .st) (later .st) → Comes d (deps s d) s c → Does d (c .st) later
+one-node : (s : St) (d : ℕ) (first c now later : Ans) → s .fl d .mutable ≡ true → Does d s now → Steps (c .st) (later .st) → Comes d (deps s d) s c → Does d (c .st) later
     → Shows d s (elim (bare (s .fl d)) [ true ↦ first | false ↦ elim (s .fl d .dirty) [ true ↦ now | false ↦ elim (s .fl d .pending) [ true ↦ elim (c .yes) [ true ↦ later | false ↦ ans (setFl (c .st) d (withPending (c .st .fl d) false)) false ] | false ↦ ans s false ] ] ])
-one-node s d first c now later m at-once sticks checked after =
+one-node s d first c now later m at-once steps checked after =
     branch (Shows d s) (bare (s .fl d)) (λ e. clash e (not-bare (s .fl d) m))
     (λ e. branch (Shows d s) (s .fl d .dirty) (λ f. record { looks = λ z. updates f (at-once .updates z) })
     (λ f. branch (Shows d s) (s .fl d .pending)
     (λ p. branch (Shows d s) (c .yes)
-    (λ y. record { looks = λ z. follows f p (subst (Looked Updated (along d (deps s d)) s (c .st)) y (checked .looks (was-free (c .st) (later .st) sticks z))) (after .updates z) })
+    (λ y. record { looks = λ z. follows f p (subst (Looked Updated (along d (deps s d)) s (c .st)) y (checked .looks (unstuck (c .st) (later .st) steps z))) (after .updates z) })
     (λ y. record { looks = λ z. clears f p (subst (Looked Updated (along d (deps s d)) s (c .st)) y (checked .looks z)) }))
     (λ p. record { looks = λ z. clean f p })))
 
--- ---- asked of the ring: what is stuck stays so, and kinds stay
+-- ---- asked of the ring: it is made of steps, so what is stuck stays so, and kinds stay
 record Ring : Type 0 where
-  pub along-sticks : (k u : ℕ) (ls : List ℕ) (s : St) → Sticks s (checkOn (fresh k) u s ls .st)
-  pub update-sticks : (k : ℕ) (c : Kind) (s : St) (n : ℕ) → Sticks s (updW (fresh k) c s n .st)
+  pub along-steps : (k u : ℕ) (ls : List ℕ) (s : St) → Steps s (checkOn (fresh k) u s ls .st)
+  pub update-steps : (k : ℕ) (c : Kind) (s : St) (n : ℕ) → Steps s (updW (fresh k) c s n .st)
   pub kinds : (k : ℕ) (s : St) (u n : ℕ) → checkW (fresh k) s u .st .kind n ≡ s .kind n
 
 module _ (ring : Ring) (k : ℕ) (asked : Asked k) where
@@ -96,7 +86,7 @@ module _ (ring : Ring) (k : ℕ) (asked : Asked k) where
   looks-along u (l ∷ ls) s =
       let d = s .dep l in
       let t = steady (s .subs d) (fresh k s d .st) d in
-      one-link u l ls s t (fresh k s d .yes) (checkOn (fresh k) u t ls) (checkOn (fresh k) u s ls) (looks-back (s .subs d) s d) (ring .along-sticks k u ls t) (looks-along u ls t) (looks-along u ls s)
+      one-link u l ls s t (fresh k s d .yes) (checkOn (fresh k) u t ls) (checkOn (fresh k) u s ls) (looks-back (s .subs d) s d) (ring .along-steps k u ls t) (looks-along u ls t) (looks-along u ls s)
 
   looks-whole : (s : St) (u : ℕ) → Comes u (deps s u) s (checkW (fresh k) s u)
   unfolding checkW
@@ -107,7 +97,7 @@ module _ (ring : Ring) (k : ℕ) (asked : Asked k) where
   looks-at s d m =
       let c = checkW (fresh k) s d in
       one-node s d (ans (firstW (fresh k) s d) false) c (updW (fresh k) (s .kind d) s d) (updW (fresh k) (s .kind d) (c .st) d) m (record { updates = λ z. (k, refl, z) })
-      (ring .update-sticks k (s .kind d) (c .st) d) (looks-whole s d) (record { updates = λ z. (k, ap (λ (x : Kind). updW (fresh k) x (c .st) d) (ring .kinds k s d d), z) })
+      (ring .update-steps k (s .kind d) (c .st) d) (looks-whole s d) (record { updates = λ z. (k, ap (λ (x : Kind). updW (fresh k) x (c .st) d) (ring .kinds k s d d), z) })
 
 all-look : (ring : Ring) (k : ℕ) → Asked k
 unfolding fresh
@@ -117,8 +107,8 @@ all-look ring (suc k) = looks-at ring k (all-look ring k)
 -- ---- so it is, with any budget
 the-ring : Ring
 the-ring = record {
-  along-sticks = checkOn-ring Sticks (runs-stick .renews);
-  update-sticks = upd-ring Sticks (runs-stick .renews);
+  along-steps = checkOn-ring Steps (runs .renews);
+  update-steps = upd-ring Steps (runs .renews);
   kinds = λ k s u n. ap (λ (f : Fixed). f .nodes .kind n) (checkW-ring Still renews-still k s u .same);
 }
 

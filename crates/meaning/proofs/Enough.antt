@@ -11,10 +11,13 @@ use Rattle.meaning.specs.Setters.{setFl, setSto, withCycle}
 use Rattle.meaning.specs.Links.{isNil, link, purge, rewind}
 use Rattle.meaning.specs.Marks.{shallow}
 use Rattle.meaning.specs.Reads.{Ans, ans, Out, out, evalBy, settleW, readW, firstW, updComputed, updW, sameSlots, steady, checkOn, checkW, pendingW, freshW, fresh}
+use Rattle.meaning.specs.Moments.{Steps, here}
 use Rattle.meaning.specs.Checks.{tells, Updated, Checks}
 use Rattle.meaning.proofs.Laws.{clash, branch, branches, or-left}
 use Rattle.meaning.proofs.Rings.{purge-ring, eval-ring, upd-ring, checkOn-ring}
-use Rattle.meaning.proofs.Checking.{Sticks, runs-stick, was-free, tells-free, OneEnd, looked-one}
+use Rattle.meaning.proofs.Throughout.{unstuck}
+use Rattle.meaning.proofs.Stepped.{drops, runs}
+use Rattle.meaning.proofs.Checking.{tells-free, OneEnd, looked-one}
 
 -- b is a, unless a is stuck
 record Agrees {A : Type 0} (state : A → St) (a b : A) : Type 0 where
@@ -33,16 +36,16 @@ AgreeO = Agrees (λ (o : Out). o .st)
 abbrev asks : ℕ → List ℕ → (St → Ans) → Ans → Ans
 asks d was more r = let t = steady was (r .st) d in elim (r .yes) [ true ↦ ans (tells t d) true | false ↦ more t ]
 
-steady-sticks : (was : List ℕ) (t : St) (d : ℕ) → Sticks t (steady was t d)
+steady-steps : (was : List ℕ) (t : St) (d : ℕ) → Steps t (steady was t d)
 unfolding steady
-steady-sticks was t d = branch (Sticks t) (sameSlots was (t .subs d) && not (isNil was)) (λ e z. z) (λ e z. refl)
+steady-steps was t d = branch (Steps t) (sameSlots was (t .subs d) && not (isNil was)) (λ e. here) (λ e. drops .stops t)
 
-asked-agrees : (d : ℕ) (was : List ℕ) (r q : Ans) (more other : St → Ans) → AgreeA r q → ((t : St) → Sticks t (more t .st)) → ((t : St) → AgreeA (more t) (other t)) → AgreeA (asks d was more r) (asks d was other q)
-asked-agrees d was r q more other ag sticks ags =
+asked-agrees : (d : ℕ) (was : List ℕ) (r q : Ans) (more other : St → Ans) → AgreeA r q → ((t : St) → Steps t (more t .st)) → ((t : St) → AgreeA (more t) (other t)) → AgreeA (asks d was more r) (asks d was other q)
+asked-agrees d was r q more other ag steps ags =
     let t = steady was (r .st) d in
-    let free : asks d was more r .st .stuck ≡ false → t .stuck ≡ false = branch (λ (a : Ans). a .st .stuck ≡ false → t .stuck ≡ false) (r .yes) (λ y z. tells-free t d z) (λ y z. was-free t (more t .st) (sticks t) z) in
+    let free : asks d was more r .st .stuck ≡ false → t .stuck ≡ false = branch (λ (a : Ans). a .st .stuck ≡ false → t .stuck ≡ false) (r .yes) (λ y z. tells-free t d z) (λ y z. unstuck t (more t .st) (steps t) z) in
     let same-way : AgreeA (asks d was more r) (asks d was other r) = branches AgreeA (r .yes) (λ y. record { same = λ z. refl }) (λ y. ags t) in
-    record { same = λ z. ap (asks d was other) (ag .same (was-free (r .st) t (steady-sticks was (r .st) d) (free z))) ∙ same-way .same z }
+    record { same = λ z. ap (asks d was other) (ag .same (unstuck (r .st) t (steady-steps was (r .st) d) (free z))) ∙ same-way .same z }
 
 pub spread-free : (r : Ans) (n : ℕ) → _≡_ {A = Bool} ((elim (r .yes) as (λ (b : Bool). St) [ true ↦ shallow (r .st) n | false ↦ r .st ]) .stuck) false → r .st .stuck ≡ false
 spread-free r n = branch (λ (x : St). x .stuck ≡ false → r .st .stuck ≡ false) (r .yes) (λ y z. or-left (r .st .stuck) _ z) (λ y z. z)
@@ -56,7 +59,7 @@ module _ (k j : ℕ) (agree : (s : St) (n : ℕ) → AgreeA (fresh k s n) (fresh
   reads : (u : ℕ) (s : St) (m : ℕ) → AgreeS (readW (fresh k) u s m) (readW (fresh j) u s m)
   reads u s m =
       let t = settleW (fresh k) s m in
-      record { same = λ z. ap (λ (x : St). link x m u (x .cycle)) (settles s m .same (was-free t (link t m u (t .cycle)) (runs-stick .renews .links t m u (t .cycle)) z)) }
+      record { same = λ z. ap (λ (x : St). link x m u (x .cycle)) (settles s m .same (unstuck t (link t m u (t .cycle)) (runs .renews .links t m u (t .cycle)) z)) }
 
   evals : (u : ℕ) (f : Tree) (s : St) → AgreeO (evalBy (readW (fresh k) u) f s) (evalBy (readW (fresh j) u) f s)
   unfolding evalBy
@@ -69,7 +72,7 @@ module _ (k j : ℕ) (agree : (s : St) (n : ℕ) → AgreeA (fresh k s n) (fresh
       record {
         same = λ z.
             ap (λ (v : Out). let w = evalBy (readW (fresh j) u) b (v .st) in out (w .st) (apply o (v .val) (w .val)) (v .reads ++ w .reads))
-            (evals u a s .same (was-free (x .st) (y .st) (eval-ring Sticks (runs-stick .renews) k u b (x .st)) z))
+            (evals u a s .same (unstuck (x .st) (y .st) (eval-ring Steps (runs .renews) k u b (x .st)) z))
             ∙ ap (λ (w : Out). out (w .st) (apply o (x .val) (w .val)) (x .reads ++ w .reads)) (evals u b (x .st) .same z);
       }
   evals u (choose c a b) s =
@@ -78,10 +81,10 @@ module _ (k j : ℕ) (agree : (s : St) (n : ℕ) → AgreeA (fresh k s n) (fresh
       let x = evalBy rd c s in
       let taken : (St → ℕ → St) → Out → Out = λ r v. elim (isZero (v .val)) as (λ (i : Bool). Out) [ true ↦ evalBy r b (v .st) | false ↦ evalBy r a (v .st) ] in
       let one-way : AgreeO (taken rd x) (taken rj x) = branches AgreeO (isZero (x .val)) (λ e. evals u b (x .st)) (λ e. evals u a (x .st)) in
-      let sticks : Sticks (x .st) (taken rd x .st) = branch (λ (y : Out). Sticks (x .st) (y .st)) (isZero (x .val)) (λ e. eval-ring Sticks (runs-stick .renews) k u b (x .st)) (λ e. eval-ring Sticks (runs-stick .renews) k u a (x .st)) in
+      let steps : Steps (x .st) (taken rd x .st) = branch (λ (y : Out). Steps (x .st) (y .st)) (isZero (x .val)) (λ e. eval-ring Steps (runs .renews) k u b (x .st)) (λ e. eval-ring Steps (runs .renews) k u a (x .st)) in
       record {
         same = λ z.
-            ap (λ (v : Out). let w = taken rj v in out (w .st) (w .val) (v .reads ++ w .reads)) (evals u c s .same (was-free (x .st) (taken rd x .st) sticks z))
+            ap (λ (v : Out). let w = taken rj v in out (w .st) (w .val) (v .reads ++ w .reads)) (evals u c s .same (unstuck (x .st) (taken rd x .st) steps z))
             ∙ ap (λ (w : Out). out (w .st) (w .val) (x .reads ++ w .reads)) (one-way .same z);
       }
 
@@ -95,7 +98,7 @@ module _ (k j : ℕ) (agree : (s : St) (n : ℕ) → AgreeA (fresh k s n) (fresh
       let t = setFl (rewind (withCycle s (raised (s .cycle))) n) n f5 in
       let o = evalBy (readW (fresh k) n) (s .form n) t in
       let y = setFl (setSto (o .st) n (o .val)) n f1 in
-      record { same = λ z. ap (λ (o : Out). ans (purge (setFl (setSto (o .st) n (o .val)) n f1) n) (not (same (s .sto n) (o .val)))) (evals n (s .form n) t .same (was-free y (purge y n) (purge-ring Sticks (runs-stick .renews .drops) y n) z)) }
+      record { same = λ z. ap (λ (o : Out). ans (purge (setFl (setSto (o .st) n (o .val)) n f1) n) (not (same (s .sto n) (o .val)))) (evals n (s .form n) t .same (unstuck y (purge y n) (purge-ring Steps drops y n) z)) }
 
   upds : (c : Kind) (s : St) (n : ℕ) → AgreeA (updW (fresh k) c s n) (updW (fresh j) c s n)
   unfolding updW
@@ -111,7 +114,7 @@ module _ (k j : ℕ) (agree : (s : St) (n : ℕ) → AgreeA (fresh k s n) (fresh
       let d = s .dep l in
       branches AgreeA (s .fl u .dirty) (λ e. record { same = λ z. refl })
       (λ e. branches AgreeA (s .fl d .mutable)
-      (λ m. asked-agrees d (s .subs d) (fresh k s d) (fresh j s d) (λ t. checkOn (fresh k) u t ls) (λ t. checkOn (fresh j) u t ls) (agree s d) (checkOn-ring Sticks (runs-stick .renews) k u ls) (checks u ls))
+      (λ m. asked-agrees d (s .subs d) (fresh k s d) (fresh j s d) (λ t. checkOn (fresh k) u t ls) (λ t. checkOn (fresh j) u t ls) (agree s d) (checkOn-ring Steps (runs .renews) k u ls) (checks u ls))
       (λ m. checks u ls s))
 
   wholly : (s : St) (u : ℕ) → AgreeA (checkW (fresh k) s u) (checkW (fresh j) s u)
@@ -126,7 +129,7 @@ module _ (k j : ℕ) (agree : (s : St) (n : ℕ) → AgreeA (fresh k s n) (fresh
   unfolding pendingW
   pendings s n =
       let c = checkW (fresh k) s n in
-      let free : then k s n c .st .stuck ≡ false → c .st .stuck ≡ false = branch (λ (a : Ans). a .st .stuck ≡ false → c .st .stuck ≡ false) (c .yes) (λ y z. was-free (c .st) (updW (fresh k) (s .kind n) (c .st) n .st) (upd-ring Sticks (runs-stick .renews) k (s .kind n) (c .st) n) z) (λ y z. z) in
+      let free : then k s n c .st .stuck ≡ false → c .st .stuck ≡ false = branch (λ (a : Ans). a .st .stuck ≡ false → c .st .stuck ≡ false) (c .yes) (λ y z. unstuck (c .st) (updW (fresh k) (s .kind n) (c .st) n .st) (upd-ring Steps (runs .renews) k (s .kind n) (c .st) n) z) (λ y z. z) in
       let one-way : AgreeA (then k s n c) (then j s n c) = branches AgreeA (c .yes) (λ y. upds (s .kind n) (c .st) n) (λ y. record { same = λ z. refl }) in
       record { same = λ z. ap (then j s n) (wholly s n .same (free z)) ∙ one-way .same z }
 

@@ -12,6 +12,7 @@ use Rattle.meaning.specs.Marks.{withMarks}
 use Rattle.meaning.specs.Engine.{rerun, run, flushOn}
 use Rattle.meaning.specs.Words.{Command, nodeOf}
 use Rattle.meaning.specs.WellFormed.{In}
+use Rattle.meaning.specs.Moments.{Steps}
 use Rattle.meaning.specs.Outcome.{sets, adds}
 use Rattle.meaning.specs.Checks.{Checks}
 use Rattle.meaning.specs.Turns.{InTurn, ends, gone, clean, unchanged, changed, dirty, wrote, FlushBegins, as-before, walks, batch}
@@ -23,7 +24,9 @@ use Rattle.meaning.proofs.Flush.{run-queues-nothing, rerun-row, whos}
 use Rattle.meaning.proofs.Inside.{nobody, Static, Inside}
 use Rattle.meaning.proofs.Running.{run-inside}
 use Rattle.meaning.proofs.Ordered.{walked-one}
-use Rattle.meaning.proofs.Checking.{Sticks, runs-stick, was-free, check-looks}
+use Rattle.meaning.proofs.Throughout.{unstuck}
+use Rattle.meaning.proofs.Stepped.{runs}
+use Rattle.meaning.proofs.Checking.{check-looks}
 use Rattle.meaning.proofs.Enough.{checks-one}
 
 -- the rest of the queue, from t on, with what the rows say
@@ -60,7 +63,7 @@ live-turn s e q a =
     branch (Turn s e q) (s .fl e .dirty) (λ d. one-row s s′ e q refl (λ z r f. dirty e a d f))
     (λ d. branch (Turn s e q) (s .fl e .pending)
     (λ pd. branch (Turn s e q) (c .yes)
-    (λ y. one-row s (c .st) e q p (λ z r f. changed e a d pd (looks (was-free (c .st) (rerun (c .st) e) (rerun-ring Sticks runs-stick (c .st) e) z) true y) f))
+    (λ y. one-row s (c .st) e q p (λ z r f. changed e a d pd (looks (unstuck (c .st) (rerun (c .st) e) (rerun-ring Steps runs (c .st) e) z) true y) f))
     (λ y. no-row s (setFl (c .st) e f2) e q p (λ z r f. unchanged e a d pd (looks z false y) f)))
     (λ pd. no-row s (setFl s′ e f2) e q refl (λ z r f. clean e a d pd f)))
 
