@@ -21,6 +21,7 @@ use Rattle.freshness.specs.Afresh.{readings}
 use Rattle.meaning.specs.Evaluations.{countRerun}
 use Rattle.freshness.specs.Evaluations.{inFormula, inFresh, inRerun}
 use Rattle.freshness.specs.Nodes.{owns}
+use Rattle.meaning.proofs.Steps.{rerun-is}
 use Rattle.meaning.proofs.Laws.{clash, false≢true, either, up-same, up-other, in-left}
 use Rattle.meaning.proofs.Members.{nil-none}
 use Rattle.meaning.proofs.Rings.{purge-ring, evaluate-ring}
@@ -272,7 +273,7 @@ module _ (g : Given) (st : Static g) (p : ℕ → Value) (ρ : Records) (e : ℕ
 
   -- ---- a rerun: e is off the queue, and exempt
   pub rerun-fresh : (s : St) → Inside g (Run g st e) s → Lies g st s e → s .fl e .pending ≡ true → Inv g p ρ (Run g st e) (Run g st e) s → s .cycle + inRerun s e < limit → Reran g p ρ e (inRerun s e) s (rerun s e)
-  unfolding rerun countRerun
+  unfolding countRerun
   rerun-fresh s i l pd v =
       let b = withCycle s (raised (s .cycle)) in
       let s₁ = setFl (rewind b e) e f6 in
@@ -292,10 +293,11 @@ module _ (g : Given) (st : Static g) (p : ℕ → Value) (ρ : Records) (e : ℕ
         since = λ k x. absurd x;
         older = λ k x. let y = v .ver k (i .lists .deps-live k e (subst (In k) (up-same (s .rest) e (s .done e ++ s .rest e)) x) .0) in omega arith;
       }) in
-      subst (λ (t : Tree). s .cycle + suc (inFormula (readW (fresh (s .size)) e) (inFresh (s .size)) t s₁) < limit
+      subst (λ (x : St). s .cycle + inRerun s e < limit → Reran g p ρ e (inRerun s e) s x) (sym (rerun-is s e (ap (λ (z : Given). z .kind e) (i .same) ∙ ke)))
+      (subst (λ (t : Tree). s .cycle + suc (inFormula (readW (fresh (s .size)) e) (inFresh (s .size)) t s₁) < limit
       → Reran g p ρ e (suc (inFormula (readW (fresh (s .size)) e) (inFresh (s .size)) t s₁)) s (purge (setFl (logged (evalBy (readW (fresh (s .size)) e) t s₁) e) e f2) e))
       (sym (ap (λ (z : Given). z .form e) (i .same)))
       (λ fits. let one : raised (s .cycle) ≡ s .cycle + 1 = raises (s .cycle) (omega arith) in
       reran-as (1 + inFormula (readW (fresh (s .size)) e) (inFresh (s .size)) (g .form e) s₁) (suc (inFormula (readW (fresh (s .size)) e) (inFresh (s .size)) (g .form e) s₁)) (omega arith)
       (later-fresh s s₁ i (l .owns) i₁ f₁ (up-same (s .done) e []) few (renamed s v ρ (λ m q. refl) f6 (raised (s .cycle)) (s₁ .done) (s₁ .rest) (s .log) (omega arith)) (s .cycle + 1) 1 ev (omega arith)
-      (moves-flags g p (Near g st e) nobody e 1 s s₁ (λ k a c. refl) (λ m. inl refl) (λ m q. refl) (omega arith) (omega arith) (λ m z q. up-other (s .fl) e f6 m (λ x. z (inr x)))) refl (omega arith)))
+      (moves-flags g p (Near g st e) nobody e 1 s s₁ (λ k a c. refl) (λ m. inl refl) (λ m q. refl) (omega arith) (omega arith) (λ m z q. up-other (s .fl) e f6 m (λ x. z (inr x)))) refl (omega arith))))
