@@ -13,7 +13,6 @@ use Rattle.primitive.proofs.ValueLaws.{same-yes}
 use Rattle.meaning.specs.State.{St, Kind, signal, readable, f1, f17, bare, hasValue, up}
 use Rattle.meaning.specs.Setters.{setFl, setSto, withLog}
 use Rattle.meaning.specs.Links.{provided}
-use Rattle.meaning.specs.Marks.{shallow}
 use Rattle.meaning.specs.Reads.{Ans, updSignal, updW, freshW, fresh, spread, settleW, settle}
 use Rattle.meaning.specs.Words.{Command, readOf, commandOf, nodeOf}
 use Rattle.meaning.specs.Refusals.{sightOf, asksOf, wrongNode, table}
