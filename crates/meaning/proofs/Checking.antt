@@ -6,21 +6,23 @@ use Prim.Native.Nat.{ℕ, zero, suc}
 use Rattle.primitive.specs.declared.flags.Named.{Named}
 use Rattle.meaning.specs.State.{St, Kind, deps, bare, withPending}
 use Rattle.meaning.specs.Setters.{setFl}
-use Rattle.meaning.specs.Links.{isNil, several}
+use Rattle.meaning.specs.Links.{provided, isNil, several}
 use Rattle.meaning.specs.Reads.{Ans, ans, firstW, updW, sameSlots, steady, checkOn, checkW, pendingW, freshW, fresh}
 use Rattle.meaning.specs.Moments.{Steps}
 use Rattle.meaning.specs.Checks.{Place, along, at, tells, Looked, ends, knows, passes, goes-on, stops, clean, updates, clears, follows, Updated, Checks}
-use Rattle.meaning.proofs.Laws.{clash, false≢true, branch, or-first, or-left}
+use Rattle.meaning.proofs.Laws.{clash, false≢true, branch, provided-by, or-first, or-left}
 use Rattle.meaning.proofs.Rings.{upd-ring, checkOn-ring, checkW-ring}
 use Rattle.meaning.proofs.Still.{Still, Fixed, renews-still}
 use Rattle.meaning.proofs.Throughout.{unstuck}
 use Rattle.meaning.proofs.Stepped.{runs}
 
 -- ---- single steps
+pub provided-free : (b : Bool) (t : St) → provided b t .stuck ≡ false → provided b t ≡ t
+provided-free b t = provided-by (λ (x : St). x .stuck ≡ false → x ≡ t) b (λ z. refl) (λ z. clash refl z)
+
 steady-free : (was : List ℕ) (t : St) (d : ℕ) → steady was t d .stuck ≡ false → steady was t d ≡ t
 unfolding steady
-steady-free was t d =
-    branch (λ (x : St). x .stuck ≡ false → x ≡ t) (sameSlots was (t .subs d) && not (isNil was)) (λ e z. refl) (λ e z. clash refl z)
+steady-free was t d = provided-free (sameSlots was (t .subs d) && not (isNil was)) t
 
 pub tells-free : (t : St) (d : ℕ) → tells t d .stuck ≡ false → t .stuck ≡ false
 tells-free t d = branch (λ (x : St). x .stuck ≡ false → t .stuck ≡ false) (several (t .subs d)) (λ e z. or-left (t .stuck) _ z) (λ e z. z)

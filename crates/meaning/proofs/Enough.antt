@@ -6,14 +6,13 @@ use Prim.Native.Nat.{ℕ, zero, suc, _+_, _≤_}
 use native.Mathlib.Omega.{arith}
 use Rattle.primitive.specs.Values.{same, isZero}
 use Rattle.formula.specs.Trees.{Tree, constant, read, two, choose, apply}
-use Rattle.meaning.specs.State.{St, Kind, signal, computed, effect, scope, deps, bare, f1, f5, withPending, raised}
+use Rattle.meaning.specs.State.{St, Kind, signal, computed, effect, scope, deps, bare, hasValue, f1, f5, withPending, raised}
 use Rattle.meaning.specs.Setters.{setFl, setSto, withCycle}
-use Rattle.meaning.specs.Links.{isNil, link, purge, rewind}
-use Rattle.meaning.specs.Marks.{shallow}
-use Rattle.meaning.specs.Reads.{Ans, ans, Out, out, evalBy, settleW, readW, firstW, updComputed, updW, sameSlots, steady, checkOn, checkW, pendingW, freshW, fresh}
+use Rattle.meaning.specs.Links.{provided, isNil, link, purge, rewind}
+use Rattle.meaning.specs.Reads.{Ans, ans, Out, out, evalBy, spread, settleW, readW, firstW, updComputed, updW, sameSlots, steady, checkOn, checkW, pendingW, freshW, fresh}
 use Rattle.meaning.specs.Moments.{Steps, here}
 use Rattle.meaning.specs.Checks.{tells, Updated, Checks}
-use Rattle.meaning.proofs.Laws.{clash, branch, branches, or-left}
+use Rattle.meaning.proofs.Laws.{clash, branch, branches, provided-by, or-left}
 use Rattle.meaning.proofs.Rings.{purge-ring, eval-ring, upd-ring, checkOn-ring}
 use Rattle.meaning.proofs.Throughout.{unstuck}
 use Rattle.meaning.proofs.Stepped.{drops, runs}
@@ -38,7 +37,7 @@ asks d was more r = let t = steady was (r .st) d in elim (r .yes) [ true ↦ ans
 
 steady-steps : (was : List ℕ) (t : St) (d : ℕ) → Steps t (steady was t d)
 unfolding steady
-steady-steps was t d = branch (Steps t) (sameSlots was (t .subs d) && not (isNil was)) (λ e. here) (λ e. drops .stops t)
+steady-steps was t d = provided-by (Steps t) (sameSlots was (t .subs d) && not (isNil was)) here (drops .stops t)
 
 asked-agrees : (d : ℕ) (was : List ℕ) (r q : Ans) (more other : St → Ans) → AgreeA r q → ((t : St) → Steps t (more t .st)) → ((t : St) → AgreeA (more t) (other t)) → AgreeA (asks d was more r) (asks d was other q)
 asked-agrees d was r q more other ag steps ags =
@@ -47,14 +46,21 @@ asked-agrees d was r q more other ag steps ags =
     let same-way : AgreeA (asks d was more r) (asks d was other r) = branches AgreeA (r .yes) (λ y. record { same = λ z. refl }) (λ y. ags t) in
     record { same = λ z. ap (asks d was other) (ag .same (unstuck (r .st) t (steady-steps was (r .st) d) (free z))) ∙ same-way .same z }
 
-pub spread-free : (r : Ans) (n : ℕ) → _≡_ {A = Bool} ((elim (r .yes) as (λ (b : Bool). St) [ true ↦ shallow (r .st) n | false ↦ r .st ]) .stuck) false → r .st .stuck ≡ false
-spread-free r n = branch (λ (x : St). x .stuck ≡ false → r .st .stuck ≡ false) (r .yes) (λ y z. or-left (r .st .stuck) _ z) (λ y z. z)
+-- n is read, and r is what it comes to
+abbrev settled : Ans → ℕ → St
+settled r n = let t = spread r n in provided (hasValue (t .kind n) (t .fl n)) t
+
+pub settled-free : (r : Ans) (n : ℕ) → settled r n .stuck ≡ false → r .st .stuck ≡ false
+settled-free r n =
+    let t = spread r n in
+    provided-by (λ (x : St). x .stuck ≡ false → r .st .stuck ≡ false) (hasValue (t .kind n) (t .fl n))
+    (branch (λ (x : St). x .stuck ≡ false → r .st .stuck ≡ false) (r .yes) (λ y z. or-left (r .st .stuck) _ z) (λ y z. z)) (λ z. clash refl z)
 
 -- ---- two budgets that agree below
 module _ (k j : ℕ) (agree : (s : St) (n : ℕ) → AgreeA (fresh k s n) (fresh j s n)) where
   settles : (s : St) (n : ℕ) → AgreeS (settleW (fresh k) s n) (settleW (fresh j) s n)
   unfolding settleW
-  settles s n = record { same = λ z. ap (λ (r : Ans). elim (r .yes) as (λ (b : Bool). St) [ true ↦ shallow (r .st) n | false ↦ r .st ]) (agree s n .same (spread-free (fresh k s n) n z)) }
+  settles s n = record { same = λ z. ap (λ (r : Ans). settled r n) (agree s n .same (settled-free (fresh k s n) n z)) }
 
   reads : (u : ℕ) (s : St) (m : ℕ) → AgreeS (readW (fresh k) u s m) (readW (fresh j) u s m)
   reads u s m =

@@ -9,10 +9,10 @@ use borrow.Author.Tests.{eqb-true}
 use Rattle.primitive.specs.declared.values.Value.{Value}
 use Rattle.primitive.specs.Values.{same}
 use Rattle.primitive.proofs.ValueLaws.{same-yes, yes-same}
-use Rattle.meaning.specs.State.{St, Row, signal, readable, unclean, f17}
+use Rattle.meaning.specs.State.{St, Row, signal, readable, unclean, hasValue, f17}
 use Rattle.meaning.specs.Setters.{withLog, withDepth}
 use Rattle.meaning.specs.Marks.{marksOf, propagate, shallow}
-use Rattle.meaning.specs.Reads.{settleW, fresh}
+use Rattle.meaning.specs.Reads.{spread, settleW, fresh}
 use Rattle.meaning.specs.Engine.{flushOn}
 use Rattle.meaning.specs.Words.{Command, makeSignal, makeComputed, makeEffect, makeScope, setTo, addTo, readOf, disposeOf, batchStart, batchEnd, commandOf, nodeOf}
 use Rattle.meaning.specs.Refusals.{asksOf, wrongNode, table}
@@ -30,8 +30,8 @@ use Rattle.meaning.proofs.Frames.{others}
 use Rattle.meaning.proofs.Walking.{i-propagated}
 use Rattle.meaning.proofs.Accepted.{logless, taken, is-signal}
 use Rattle.meaning.proofs.Moments.{flushing-whole}
-use Rattle.meaning.proofs.Checking.{fresh-looks}
-use Rattle.meaning.proofs.Enough.{spread-free}
+use Rattle.meaning.proofs.Checking.{provided-free, fresh-looks}
+use Rattle.meaning.proofs.Enough.{settled-free}
 use Rattle.meaning.proofs.Turning.{flush-in-turn, in-turn-one, begins-one}
 use Rattle.meaning.proofs.Promised.{same-write-is-nothing, write-flushes, end-runs-queue, walk-in-order, written-well-formed, nothing-stuck}
 
@@ -98,5 +98,6 @@ module _ (s : St) (rows : ℕ) (ws : List ℤ) (w : WellFormed s) (ok : command 
   read-in-order n is m =
       let e = ap (λ (a : Answer). a .st) (performed s rows ws (readOf n) is ok .0) in
       let r = fresh (s .size) (withLog s []) (nodeOf n) in
-      let z = spread-free r (nodeOf n) (ap (λ (t : St). t .stuck) (sym e) ∙ nothing-stuck s rows ws w free) in
-      (r .st, r .yes, fresh-looks (s .size) (withLog s []) (nodeOf n) m .looks z, e)
+      let x = spread r (nodeOf n) in
+      let z = ap (λ (t : St). t .stuck) (sym e) ∙ nothing-stuck s rows ws w free in
+      (r .st, r .yes, fresh-looks (s .size) (withLog s []) (nodeOf n) m .looks (settled-free r (nodeOf n) z), e ∙ provided-free (hasValue (x .kind (nodeOf n)) (x .fl (nodeOf n))) x z)

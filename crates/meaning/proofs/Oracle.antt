@@ -9,7 +9,7 @@ use Rattle.primitive.specs.Values.{sum, difference, minimum, maximum, less, cla
 use Rattle.formula.specs.Cells.{cellOf, codes, readOf, bareOf}
 use Rattle.formula.specs.Trees.{apply, written, size, names}
 use Rattle.meaning.specs.State.{up, below, empty}
-use Rattle.meaning.specs.Links.{remove, each, renew, spent, insert, link, cut, lastLink, disposeW, unwatchedW, unlinkN}
+use Rattle.meaning.specs.Links.{provided, remove, each, renew, spent, insert, link, cut, lastLink, disposeW, unwatchedW, unlinkN}
 use Rattle.meaning.specs.Marks.{chain, calm, effects, notify, mark, prop, soil, wakes}
 use Rattle.meaning.specs.Reads.{evalBy, settleW, firstW, updComputed, updSignal, updW, sameSlots, steady, checkOn, checkW, pendingW, freshW, fresh}
 use Rattle.meaning.specs.Engine.{logged, rerun, run, flushOn, store, tallest, newSignal, newComputed, newScope, newEffect}
@@ -2422,5 +2422,5 @@ abbrev scripts : List Script
 scripts = script0 ∷ script1 ∷ script2 ∷ script3 ∷ script4 ∷ script5 ∷ script6 ∷ script7 ∷ script8 ∷ script9 ∷ script10 ∷ script11 ∷ script12 ∷ script13 ∷ script14 ∷ script15 ∷ script16 ∷ script17 ∷ script18 ∷ script19 ∷ script20 ∷ script21 ∷ script22 ∷ script23 ∷ script24 ∷ script25 ∷ script26 ∷ script27 ∷ script28 ∷ script29 ∷ script30 ∷ script31 ∷ script32 ∷ script33 ∷ script34 ∷ script35 ∷ script36 ∷ script37 ∷ script38 ∷ script39 ∷ []
 
 pub all-played : Played scripts
-unfolding sum difference minimum maximum less clamp same sameNumber isZero cellOf codes readOf bareOf apply written size names up below empty remove each renew spent insert link cut lastLink disposeW unwatchedW unlinkN chain calm effects notify mark prop soil wakes evalBy settleW firstW updComputed updSignal updW sameSlots steady checkOn checkW pendingW freshW fresh logged rerun run flushOn store tallest newSignal newComputed newScope newEffect noWord word wholeCells commands commandOf after grown parse treeOf total reserve liveEffects asksOf isA unknown wrongNode goneNode allReadable badFormula tooHigh noRoom wrongDepth fewRows refusals first refusal perform performAny answer command shown answers afterAll depEnds subEnds lines Played
+unfolding sum difference minimum maximum less clamp same sameNumber isZero cellOf codes readOf bareOf apply written size names up below empty provided remove each renew spent insert link cut lastLink disposeW unwatchedW unlinkN chain calm effects notify mark prop soil wakes evalBy settleW firstW updComputed updSignal updW sameSlots steady checkOn checkW pendingW freshW fresh logged rerun run flushOn store tallest newSignal newComputed newScope newEffect noWord word wholeCells commands commandOf after grown parse treeOf total reserve liveEffects asksOf isA unknown wrongNode goneNode allReadable badFormula tooHigh noRoom wrongDepth fewRows refusals first refusal perform performAny answer command shown answers afterAll depEnds subEnds lines Played
 all-played = (refl, refl, (refl, refl, (refl, refl, (refl, refl, (refl, refl, (refl, refl, (refl, refl, (refl, refl, (refl, refl, (refl, refl, (refl, refl, (refl, refl, (refl, refl, (refl, refl, (refl, refl, (refl, refl, (refl, refl, (refl, refl, (refl, refl, (refl, refl, (refl, refl, (refl, refl, (refl, refl, (refl, refl, (refl, refl, (refl, refl, (refl, refl, (refl, refl, (refl, refl, (refl, refl, (refl, refl, (refl, refl, (refl, refl, (refl, refl, (refl, refl, (refl, refl, (refl, refl, (refl, refl, (refl, refl, (refl, refl, tt))))))))))))))))))))))))))))))))))))))))

@@ -10,14 +10,14 @@ use Rattle.primitive.specs.declared.flags.Named.{Named}
 use Rattle.primitive.specs.declared.values.Value.{Value}
 use Rattle.primitive.specs.Values.{isZero}
 use Rattle.formula.specs.Trees.{Tree, constant, read, two, choose}
-use Rattle.meaning.specs.State.{St, Kind, signal, computed, effect, scope, Row, bare, f0, f1, f2, f5, f6, f17, withPending, raised, deps}
+use Rattle.meaning.specs.State.{St, Kind, signal, computed, effect, scope, Row, bare, hasValue, f0, f1, f2, f5, f6, f17, withPending, raised, deps}
 use Rattle.meaning.specs.Setters.{withCycle, withLog, withQueue, setFl, setSto, setGone}
-use Rattle.meaning.specs.Links.{stop, isNil, headOf, several, each, link, cut, rewind, purgeW, lastLink, disposeW, unwatchedW, unlinkN, budget, purge, dispose}
-use Rattle.meaning.specs.Marks.{shallow}
-use Rattle.meaning.specs.Reads.{Ans, Out, ans, evalBy, settleW, readW, firstW, updComputed, updSignal, updW, sameSlots, steady, checkOn, checkW, pendingW, freshW, fresh, settle, check, evaluate}
+use Rattle.meaning.specs.Links.{stop, provided, isNil, headOf, several, each, link, cut, rewind, purgeW, lastLink, disposeW, unwatchedW, unlinkN, budget, purge, dispose}
+use Rattle.meaning.specs.Marks.{isEffect, shallow}
+use Rattle.meaning.specs.Reads.{Ans, Out, ans, evalBy, spread, settleW, readW, firstW, updComputed, updSignal, updW, sameSlots, steady, checkOn, checkW, pendingW, freshW, fresh, settle, check, evaluate}
 use Rattle.meaning.specs.Engine.{logged, rerun, run, flushOn}
 use Rattle.meaning.specs.Evaluations.{inFormula, inCheckOn, inCheck, inUpdate, inPending, withFirst, countFirst, countFreshW, countFresh, countRead, countEvaluation, countRerun, countRun, countFlushOn}
-use Rattle.meaning.proofs.Laws.{branch, branches}
+use Rattle.meaning.proofs.Laws.{branch, branches, provided-by}
 
 -- ---- the first ring
 pub record Drops (R : St → St → Type 0) : Type 0 where
@@ -109,6 +109,9 @@ module _ (all : Bool) (R : ℕ → St → St → Type 0) (r : Counts all R) wher
   after : (m : ℕ) (s t x : St) → R m s t → R 0 t x → R m s x
   after m s t x p q = equal (m + 0) m s x (omega arith) (r .then m 0 s t x p q)
 
+  tested : (m : ℕ) (b : Bool) (s t : St) → R m s t → R m s (provided b t)
+  tested m b s t p = provided-by (R m s) b p (after m s t (stop t) p (r .drops .stops t))
+
   eval-count : (rd : St → ℕ → St) (k : St → ℕ → ℕ) → ((s : St) (n : ℕ) → R (k s n) s (rd s n)) → (f : Tree) (s : St) → R (inFormula rd k f s) s (evalBy rd f s .st)
   unfolding evalBy inFormula
   eval-count rd k h (constant c) s = r .drops .same s
@@ -124,7 +127,8 @@ module _ (all : Bool) (R : ℕ → St → St → Type 0) (r : Counts all R) wher
     unfolding settleW
     settleW-count s n =
         let a = fr s n in
-        branch (R (c s n) s) (a .yes) (λ e. after (c s n) s (a .st) _ (frs s n) (r .shallows (a .st) n)) (λ e. frs s n)
+        let t = spread a n in
+        tested (c s n) (hasValue (t .kind n) (t .fl n)) s t (branch (R (c s n) s) (a .yes) (λ e. after (c s n) s (a .st) _ (frs s n) (r .shallows (a .st) n)) (λ e. frs s n))
 
     read-count : (u : ℕ) (s : St) (n : ℕ) → R (c s n) s (readW fr u s n)
     read-count u s n = let t = settleW fr s n in after (c s n) s t _ (settleW-count s n) (r .links t n u (t .cycle))
@@ -160,7 +164,7 @@ module _ (all : Bool) (R : ℕ → St → St → Type 0) (r : Counts all R) wher
 
     steady-count : (m : ℕ) (was : List ℕ) (s t : St) (d : ℕ) → R m s t → R m s (steady was t d)
     unfolding steady
-    steady-count m was s t d p = branch (R m s) (sameSlots was (t .subs d) && not (isNil was)) (λ e. p) (λ e. after m s t _ p (r .drops .stops t))
+    steady-count m was s t d p = tested m (sameSlots was (t .subs d) && not (isNil was)) s t p
 
     pub checkOn-count : (u : ℕ) (ls : List ℕ) (s : St) → R (inCheckOn fr c u s ls) s (checkOn fr u s ls .st)
     unfolding checkOn inCheckOn
@@ -229,8 +233,9 @@ module _ (all : Bool) (R : ℕ → St → St → Type 0) (r : Counts all R) wher
         let m = countEvaluation all t e in
         let l = logged o e in
         let y = setFl l e f2 in
-        after (suc m) s y _ (after (suc m) s l y (after (suc m) s (o .st) l (equal (1 + m) (suc m) s (o .st) (omega arith) (r .then 1 m s t (o .st) (r .begins s e f6) (evaluate-count t e))) (logged-count o e)) (r .flags l e f2))
-        (purge-ring (R 0) (r .drops) y e)
+        tested (suc m) (isEffect (s .kind e)) s (purge y e)
+        (after (suc m) s y _ (after (suc m) s l y (after (suc m) s (o .st) l (equal (1 + m) (suc m) s (o .st) (omega arith) (r .then 1 m s t (o .st) (r .begins s e f6) (evaluate-count t e))) (logged-count o e)) (r .flags l e f2))
+        (purge-ring (R 0) (r .drops) y e))
 
     pub run-count : (s : St) (e : ℕ) → R (countRun all s e) s (run s e)
     unfolding run countRun
