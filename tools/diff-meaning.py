@@ -2,7 +2,8 @@
 """Scripts answered by the Rust oracle, written out as one theorem over the definitions of crates/meaning: the answers to
    every command, and the tables after the last.
    tools/diff-meaning.py ORACLE CASES SEED > crates/meaning/proofs/Oracle.antt
-   ORACLE: the oracle's binary; CASES: the folder of its hand-written cases; SEED: of the generator."""
+   ORACLE: the oracle's binary; CASES: the folder of its hand-written cases; SEED: of the generator,
+   2 in the file that stands there; the file's first line says it."""
 import os, re, subprocess, sys
 oracle, cases, seed = sys.argv[1], sys.argv[2], sys.argv[3]
 CASES = ['13-links', '14-refusal-order', '15-room', '16-log-rows', '17-owner-depth', '18-nesting', '19-reserve-given-back',
@@ -68,7 +69,7 @@ for room in ROOMS:
             some.append((sum(3 * len(rs) for _, _, rs in told) + sum(c > 2 for c, _, _ in told) + dump['cycle'], (room, words, told, dump)))
     found += [s for _, s in sorted(some, key=lambda x: -x[0])[:EACH]]
 
-print(open(os.path.join(os.path.dirname(sys.argv[0]), 'diff-meaning-head.txt')).read())
+print(open(os.path.join(os.path.dirname(sys.argv[0]), 'diff-meaning-head.txt')).read().replace('diff-meaning.py.', 'diff-meaning.py with seed %s.' % seed, 1))
 for i, s in enumerate(found): print(written(i, *s))
 print('abbrev scripts : List Script\nscripts = %s\n' % L('script%d' % i for i in range(len(found))))
 print('pub all-played : Played scripts\n' + open(os.path.join(os.path.dirname(sys.argv[0]), 'diff-meaning-unfolding.txt')).read().rstrip())

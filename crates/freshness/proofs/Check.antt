@@ -19,7 +19,7 @@ use Rattle.meaning.proofs.Members.{nil-none, isNil-true}
 use Rattle.meaning.proofs.Still.{Given}
 use Rattle.meaning.proofs.Inside.{Set, nobody, also, only, Static, Goes, Inside, read-moves, moves-read}
 use Rattle.meaning.proofs.Frames.{Low, Frame, frame-wider, Open, open-frame}
-use Rattle.meaning.proofs.Reading.{Above, Freshened, Freshens, Near}
+use Rattle.meaning.proofs.Reading.{Above, Freshened, Freshens, settle-spreads, Near}
 use Rattle.meaning.proofs.Updating.{steady-same}
 use Rattle.freshness.proofs.Inv.{Records, union, Linked, Inv, exempt}
 use Rattle.freshness.proofs.Shallow.{shallow-settles}
@@ -74,18 +74,18 @@ module _ (g : Given) (st : Static g) (p : ℕ → Value) (ρ : Records) (X : Set
 
   -- (a)
   pub settles-of : (k j : ℕ) (fr : St → ℕ → Ans) → Freshens g st k fr → (s : St) (n : ℕ) → Inside g X s → Open g st X s → n < g .size → readable (g .kind n) ≡ true → Above g st X n → n < k → Fine g p ρ X j s n (fr s n) → Settles g p ρ X j s n (settleW fr s n)
-  unfolding settleW
   settles-of k j fr frs s n i o h rn ab lt fine =
       let r = fr s n in
       let fd = frs X s n i o h rn ab lt in
       let nx : X n → ⊥ = λ x. let a = ab n x rn in omega arith in
-      branch (Settles g p ρ X j s n) (r .yes)
+      subst (Settles g p ρ X j s n) (sym (settle-spreads g st k fr frs X s n i o h rn ab lt))
+      (branch (Settles g p ρ X j s n) (r .yes)
       (λ e. record {
         keeps = changed j s n r fd fine e;
         value = fine .value;
         moves = moves-shallow g p (Low g (suc n)) n (suc n) j s (r .st) n (i .lists) (fd .inside .lists) (fd .frame) (fine .moves) rn (differs j s n r fd fine e);
       })
-      (λ e. record { keeps = unchanged j s n r fd fine e; value = fine .value; moves = lifted j s n r fd fine i rn nx e })
+      (λ e. record { keeps = unchanged j s n r fd fine e; value = fine .value; moves = lifted j s n r fd fine i rn nx e }))
 
   -- (e)
   pub record Checks (k : ℕ) (s : St) (u : ℕ) (a : Ans) : Type 0 where

@@ -21,6 +21,7 @@ use Rattle.freshness.specs.Afresh.{readings}
 use Rattle.meaning.specs.Evaluations.{countRerun}
 use Rattle.freshness.specs.Evaluations.{inFormula, inFresh, inRerun}
 use Rattle.freshness.specs.Nodes.{owns}
+use Rattle.meaning.proofs.Steps.{rerun-is}
 use Rattle.meaning.proofs.Laws.{clash, false≢true, either, up-same, up-other, in-left}
 use Rattle.meaning.proofs.Members.{nil-none}
 use Rattle.meaning.proofs.Rings.{purge-ring, evaluate-ring}
@@ -211,13 +212,13 @@ module _ (g : Given) (st : Static g) (p : ℕ → Value) (ρ : Records) (e : ℕ
     to-out : Moves g p (Near g st e) nobody e (j + much) s (o .st)
     to-out = moves-then g p (Near g st e) nobody e e j much s s₁ (o .st) (i .lists) (i₁ .lists) f₁ m₁ (moves-bound g p (Near g st e) nobody e much (mid .much) s₁ (o .st) (goes .spent) (mid .moves))
 
-    to-end : (t : St) → t .sto ≡ o .st .sto → t .ver ≡ o .st .ver → t .cycle ≡ o .st .cycle → ((m : ℕ) → (Aside g e t m → ⊥) → t .fl m ≡ o .st .fl m) → Moves g p (Aside g e t) nobody e (j + much) s t
-    to-end t e₁ e₂ e₃ fs =
+    to-end : (t : St) → t .sto ≡ o .st .sto → t .cycle ≡ o .st .cycle → ((m : ℕ) → (Aside g e t m → ⊥) → t .fl m ≡ o .st .fl m) → Moves g p (Aside g e t) nobody e (j + much) s t
+    to-end t e₁ e₂ fs =
         moves-wider g p (Aside g e t) (Aside g e t) nobody nobody e e (j + much + 0) (j + much) s t (λ m z. z) (λ m z. z) (omega arith) (omega arith)
         (moves-then g p (Aside g e t) nobody e e (j + much) 0 s (o .st) t (i .lists) (mid .base .inside .lists)
         (frame-wider g (Near g st e) (Aside g e t) e e s (o .st) (near-aside t) (omega arith) (f-went g st e he ke s s₁ i l i₁ f₁ empty left))
         (moves-wider g p (Near g st e) (Aside g e t) nobody nobody e e (j + much) (j + much) s (o .st) (near-aside t) (λ m z. z) (omega arith) (omega arith) to-out)
-        (moves-flags g p (Aside g e t) nobody e 0 (o .st) t (λ k a b. ap (λ (f : ℕ → ℕ). f k) e₂) (λ m. inl (ap (λ (f : ℕ → Value). f m) e₁)) (λ m q. ap (λ (f : ℕ → Value). f m) e₁) (omega arith) (omega arith) (λ m a q. fs m a)))
+        (moves-flags g p (Aside g e t) nobody e 0 (o .st) t (λ m. inl (ap (λ (f : ℕ → Value). f m) e₁)) (λ m q. ap (λ (f : ℕ → Value). f m) e₁) (omega arith) (omega arith) (λ m a q. fs m a)))
 
     -- what is logged
     row-is : logged o e .log ≡ s .log ++ rowOf g p e ∷ []
@@ -243,7 +244,7 @@ module _ (g : Given) (st : Static g) (p : ℕ → Value) (ρ : Records) (e : ℕ
           row = ap (λ (f : Fixed). f .log) (purge-ring Still drops-still ended e .same) ∙ row-is;
           spares = λ m h no. either (readable (g .kind m)) (λ r. pu .inside .gone-kind m h r ∙ sym (i .gone-kind m h r))
               (λ r. pu .dropped .flags m (strictly-owned g st e m h r no) .1 ∙ f-went g st e he ke s s₁ i l i₁ f₁ empty left .gone m r);
-          moves = to-end t (z .sto) (z .ver) (z .cycle) (λ m a. stays t (pu .inside) m a (z .flags m) ∙ up-other (o .st .fl) e f2 m (λ q. a (inr (inl q))));
+          moves = to-end t (z .sto) (z .cycle) (λ m a. stays t (pu .inside) m a (z .flags m) ∙ up-other (o .st .fl) e f2 m (λ q. a (inr (inl q))));
         }
       where
         apart : (m : ℕ) → Under g e m × (m ≡ e → ⊥) → Run g st e m → ⊥
@@ -267,12 +268,12 @@ module _ (g : Given) (st : Static g) (p : ℕ → Value) (ρ : Records) (e : ℕ
               (record { sto = refl; pend = refl; ver = refl; dep = refl; sub = refl; cycle = refl; fewer = λ k a. a; gone = λ m a. a; flags = λ m. inl refl }) (refl, refl) (λ m. inl refl) (λ m q. inl (refl, refl)) refl (mid .base .tail tail);
           row = row-is;
           spares = λ m h no. either (readable (g .kind m)) (λ r. ie .gone-kind m h r ∙ sym (i .gone-kind m h r)) (λ r. f-went g st e he ke s s₁ i l i₁ f₁ empty left .gone m r);
-          moves = to-end ended refl refl refl (λ m a. up-other (o .st .fl) e f2 m (λ q. a (inr (inl q))));
+          moves = to-end ended refl refl (λ m a. up-other (o .st .fl) e f2 m (λ q. a (inr (inl q))));
         }
 
   -- ---- a rerun: e is off the queue, and exempt
   pub rerun-fresh : (s : St) → Inside g (Run g st e) s → Lies g st s e → s .fl e .pending ≡ true → Inv g p ρ (Run g st e) (Run g st e) s → s .cycle + inRerun s e < limit → Reran g p ρ e (inRerun s e) s (rerun s e)
-  unfolding rerun countRerun
+  unfolding countRerun
   rerun-fresh s i l pd v =
       let b = withCycle s (raised (s .cycle)) in
       let s₁ = setFl (rewind b e) e f6 in
@@ -292,10 +293,11 @@ module _ (g : Given) (st : Static g) (p : ℕ → Value) (ρ : Records) (e : ℕ
         since = λ k x. absurd x;
         older = λ k x. let y = v .ver k (i .lists .deps-live k e (subst (In k) (up-same (s .rest) e (s .done e ++ s .rest e)) x) .0) in omega arith;
       }) in
-      subst (λ (t : Tree). s .cycle + suc (inFormula (readW (fresh (s .size)) e) (inFresh (s .size)) t s₁) < limit
+      subst (λ (x : St). s .cycle + inRerun s e < limit → Reran g p ρ e (inRerun s e) s x) (sym (rerun-is s e (ap (λ (z : Given). z .kind e) (i .same) ∙ ke)))
+      (subst (λ (t : Tree). s .cycle + suc (inFormula (readW (fresh (s .size)) e) (inFresh (s .size)) t s₁) < limit
       → Reran g p ρ e (suc (inFormula (readW (fresh (s .size)) e) (inFresh (s .size)) t s₁)) s (purge (setFl (logged (evalBy (readW (fresh (s .size)) e) t s₁) e) e f2) e))
       (sym (ap (λ (z : Given). z .form e) (i .same)))
       (λ fits. let one : raised (s .cycle) ≡ s .cycle + 1 = raises (s .cycle) (omega arith) in
       reran-as (1 + inFormula (readW (fresh (s .size)) e) (inFresh (s .size)) (g .form e) s₁) (suc (inFormula (readW (fresh (s .size)) e) (inFresh (s .size)) (g .form e) s₁)) (omega arith)
       (later-fresh s s₁ i (l .owns) i₁ f₁ (up-same (s .done) e []) few (renamed s v ρ (λ m q. refl) f6 (raised (s .cycle)) (s₁ .done) (s₁ .rest) (s .log) (omega arith)) (s .cycle + 1) 1 ev (omega arith)
-      (moves-flags g p (Near g st e) nobody e 1 s s₁ (λ k a c. refl) (λ m. inl refl) (λ m q. refl) (omega arith) (omega arith) (λ m z q. up-other (s .fl) e f6 m (λ x. z (inr x)))) refl (omega arith)))
+      (moves-flags g p (Near g st e) nobody e 1 s s₁ (λ m. inl refl) (λ m q. refl) (omega arith) (omega arith) (λ m z q. up-other (s .fl) e f6 m (λ x. z (inr x)))) refl (omega arith))))

@@ -197,32 +197,9 @@ link-quiet s d u v =
     (λ e. branch (Quiet s) (goesTo s (headOf (s .rest u)) d) (λ f. renew-quiet s u v (s .rest u))
     (λ f. branch (Quiet s) (isFrom s (lastOf (s .subs d)) u v) (λ z. quiet s s refl refl refl refl) (λ z. insert-quiet s d u v (s .free))))
 
--- and stamps only links of u
-module _ (g : Given) (s : St) (d u v : ℕ) (o : Slots g s) where
-  abbrev Stamps : St → Type 0
-  Stamps t = (l : ℕ) → s .live l ≡ true → (s .sub l ≡ u → ⊥) → t .ver l ≡ s .ver l
-
-  renew-stamps : (ls : List ℕ) → s .rest u ≡ ls → Stamps (renew s u v ls)
-  unfolding renew
-  renew-stamps [] e l lv f = refl
-  renew-stamps (k ∷ ls) e l lv f =
-      up-other (s .ver) k v l (λ q. f (subst (λ (x : ℕ). s .sub x ≡ u) (sym q) (o .deps-live k u (in-right k (s .done u) (s .rest u) (subst (In k) (sym e) (inl refl))) .1)))
-
-  insert-stamps : (ls : List ℕ) → s .free ≡ ls → Stamps (insert s d u v ls)
-  unfolding insert
-  insert-stamps [] e l lv f = refl
-  insert-stamps (k ∷ ls) e l lv f = up-other (s .ver) k v l (λ q. clash (ap (s .live) (sym q) ∙ lv) (o .free-not-live k (subst (In k) (sym e) (inl refl)) .0))
-
-  pub link-stamps : Stamps (link s d u v)
-  unfolding link
-  link-stamps =
-      branch Stamps (goesTo s (lastOf (s .done u)) d) (λ e l lv f. refl)
-      (λ e. branch Stamps (goesTo s (headOf (s .rest u)) d) (λ f. renew-stamps (s .rest u) refl)
-      (λ f. branch Stamps (isFrom s (lastOf (s .subs d)) u v) (λ z l lv f. refl) (λ z. insert-stamps (s .free) refl)))
-
-pub link-moves : (g : Given) (p : ℕ → Value) (N : Set) (b : ℕ) (s : St) (d u v : ℕ) → Slots g s → N u → Moves g p N nobody b 0 s (link s d u v)
-link-moves g p N b s d u v o mine =
+pub link-moves : (g : Given) (p : ℕ → Value) (N : Set) (b : ℕ) (s : St) (d u v : ℕ) → Moves g p N nobody b 0 s (link s d u v)
+link-moves g p N b s d u v =
     let q = link-quiet s d u v in
     let c = q .cycle in
-    moves-flags g p N nobody b 0 s (link s d u v) (λ l lv h. link-stamps g s d u v o l lv (λ e. h (subst N (sym e) mine)))
+    moves-flags g p N nobody b 0 s (link s d u v)
     (λ m. inl (ap (λ (f : ℕ → Value). f m) (q .sto))) (λ m h. ap (λ (f : ℕ → Value). f m) (q .sto)) (omega arith) (omega arith) (λ m h k. ap (λ (f : ℕ → Named). f m) (q .fl))

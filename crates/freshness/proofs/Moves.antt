@@ -1,4 +1,4 @@
--- What an operation does to values, versions and DIRTY: a stored value stays or becomes the fresh one, below b; outside N versions stay, DIRTY stays,
+-- What an operation does to values and DIRTY: a stored value stays or becomes the fresh one, below b; outside N DIRTY stays,
 -- comes only where a dependency's stored value changed, and comes to what is pending where one did, but for a change in E; the cycle is raised at most k times. Assumes nothing.
 use mathlib.Core.Path.{_≡_, refl, sym, ap, _∙_, subst}
 use mathlib.Core.Logic.{_⊎_, inl, inr}
@@ -29,7 +29,6 @@ pub record Changed (g : Given) (s t : St) (u : ℕ) : Type 0 where
   pub new : t .sto (s .dep link) ≡ s .sto (s .dep link) → ⊥
 
 pub record Moves (g : Given) (p : ℕ → Value) (N E : Set) (b k : ℕ) (s t : St) : Type 0 where
-  pub ver : (l : ℕ) → s .live l ≡ true → (N (s .sub l) → ⊥) → t .ver l ≡ s .ver l
   pub moved : (m : ℕ) → (t .sto m ≡ s .sto m) ⊎ ((t .sto m ≡ φ g p m) × (m < b))
   pub soiled : (u : ℕ) → (N u → ⊥) → (g .kind u ≡ signal → ⊥) → s .fl u .dirty ≡ false → t .fl u .dirty ≡ true → Changed g s t u
   pub dirty : (u : ℕ) → (N u → ⊥) → (g .kind u ≡ signal → ⊥) → s .fl u .dirty ≡ true → t .fl u .dirty ≡ true
@@ -70,22 +69,21 @@ module _ (g : Given) (p : ℕ → Value) (b : ℕ) (s t x : St) (a : (m : ℕ) �
       }
 
 module _ (g : Given) (p : ℕ → Value) (N E : Set) (b : ℕ) where
-  -- a step that changes flags in N, values in E, and versions of links in N
-  pub moves-flags : (k : ℕ) (s t : St) → ((l : ℕ) → s .live l ≡ true → (N (s .sub l) → ⊥) → t .ver l ≡ s .ver l) → ((m : ℕ) → (t .sto m ≡ s .sto m) ⊎ ((t .sto m ≡ φ g p m) × (m < b))) → ((m : ℕ) → (E m → ⊥) → t .sto m ≡ s .sto m)
+  -- a step that changes flags in N and values in E
+  pub moves-flags : (k : ℕ) (s t : St) → ((m : ℕ) → (t .sto m ≡ s .sto m) ⊎ ((t .sto m ≡ φ g p m) × (m < b))) → ((m : ℕ) → (E m → ⊥) → t .sto m ≡ s .sto m)
       → s .cycle ≤ t .cycle → t .cycle ≤ s .cycle + k
       → ((m : ℕ) → (N m → ⊥) → (g .kind m ≡ signal → ⊥) → t .fl m ≡ s .fl m) → Moves g p N E b k s t
-  moves-flags k s t e₁ e₂ e₀ e₃ e₄ fs = record {
-    ver = e₁;
-    moved = e₂;
+  moves-flags k s t e₁ e₀ e₂ e₃ fs = record {
+    moved = e₁;
     soiled = λ u h q a c. clash c (ap (λ (x : Named). x .dirty) (fs u h q) ∙ a);
     dirty = λ u h q a. ap (λ (x : Named). x .dirty) (fs u h q) ∙ a;
     touch = λ l lv h q e a. inl (e₀ (s .dep l) e);
-    later = e₃;
-    spent = e₄;
+    later = e₂;
+    spent = e₃;
   }
 
   pub moves-same : (s : St) → Moves g p N E b 0 s s
-  moves-same s = moves-flags 0 s s (λ l a h. refl) (λ m. inl refl) (λ m h. refl) (omega arith) (omega arith) (λ m h q. refl)
+  moves-same s = moves-flags 0 s s (λ m. inl refl) (λ m h. refl) (omega arith) (omega arith) (λ m h q. refl)
 
   pub moves-then : (c j k : ℕ) (s t x : St) → Slots g s → Slots g t → Frame g N c s t → Moves g p N E b j s t → Moves g p N E b k t x → Moves g p N E b (j + k) s x
   moves-then c j k s t x sl tl f a q =
@@ -94,7 +92,6 @@ module _ (g : Given) (p : ℕ → Value) (N E : Set) (b : ℕ) where
       let h₃ = q .later in
       let h₄ = q .spent in
       record {
-        ver = λ l lv h. let y = f .links l lv h in q .ver l (y .0) (λ n. h (subst N (y .2) n)) ∙ a .ver l lv h;
         moved = λ m. both m (a .moved m) (q .moved m);
         soiled = λ u h z d e. either (t .fl u .dirty) (λ w. changed-before g p b s t x (a .moved) (q .moved) u (a .soiled u h z d w)) (λ w. changed-after g p b s t x (a .moved) (q .moved) N c sl tl f u h (q .soiled u h z w e));
         dirty = λ u h z d. q .dirty u h z (a .dirty u h z d);
@@ -125,7 +122,6 @@ pub moves-wider : (g : Given) (p : ℕ → Value) (N M E F : Set) (b c j k : ℕ
 moves-wider g p N M E F b c j k s t h h′ le lk f =
     let a = f .spent in
     record {
-      ver = λ l lv n. f .ver l lv (λ z. n (h (s .sub l) z));
       moved = λ m. go m (f .moved m);
       soiled = λ u n. f .soiled u (λ z. n (h u z));
       dirty = λ u n. f .dirty u (λ z. n (h u z));
@@ -141,7 +137,6 @@ moves-wider g p N M E F b c j k s t h h′ le lk f =
 -- shallow propagation after what changed d
 pub moves-shallow : (g : Given) (p : ℕ → Value) (N : Set) (c b k : ℕ) (s t : St) (d : ℕ) → Slots g s → Slots g t → Frame g N c s t → Moves g p N (only d) b k s t → readable (g .kind d) ≡ true → (t .sto d ≡ s .sto d → ⊥) → Moves g p N nobody b k s (shallow t d)
 moves-shallow g p N c b k s t d sl tl f a r nw = record {
-  ver = a .ver;
   moved = a .moved;
   soiled = λ u h z x y. came u h z x y (soil-turn (t .sub) (t .subs d) (t .fl) u);
   dirty = λ u h z x. stay u (a .dirty u h z x) (soil-turn (t .sub) (t .subs d) (t .fl) u);
@@ -182,12 +177,11 @@ moves-shallow g p N c b k s t d sl tl f a r nw = record {
 
 -- at most j evaluations, said better
 pub moves-bound : (g : Given) (p : ℕ → Value) (N E : Set) (b j k : ℕ) (s t : St) → t .cycle ≤ s .cycle + j → Moves g p N E b k s t → Moves g p N E b j s t
-moves-bound g p N E b j k s t h f = record { ver = f .ver; moved = f .moved; soiled = f .soiled; dirty = f .dirty; touch = f .touch; later = f .later; spent = h }
+moves-bound g p N E b j k s t h f = record { moved = f .moved; soiled = f .soiled; dirty = f .dirty; touch = f .touch; later = f .later; spent = h }
 
 -- nobody reads d, or its value stayed
 pub moves-lift : (g : Given) (p : ℕ → Value) (N : Set) (b k : ℕ) (s t : St) (d : ℕ) → ((l : ℕ) → s .live l ≡ true → (N (s .sub l) → ⊥) → s .dep l ≡ d → t .sto d ≡ s .sto d) → Moves g p N (only d) b k s t → Moves g p N nobody b k s t
 moves-lift g p N b k s t d h f = record {
-  ver = f .ver;
   moved = f .moved;
   soiled = f .soiled;
   dirty = f .dirty;

@@ -98,7 +98,7 @@ module _ (g : Given) (st : Static g) (p : ℕ → Value) (ρ : Records) (e : ℕ
           seen = λ m h k gn na d. either (eqb m e) (λ z. v .seen m h k gn na (ap (λ (b : ℕ). s .fl b .dirty) (eqb-true m e z) ∙ nd)) (λ z. v .seen m h k gn na (ap (λ (x : Named). x .dirty) (sym (flags m (eqb-false m e z))) ∙ d));
           rec = v .rec;
         }) (λ a w. nothing-due g st p ρ s i v e nd np (again w)) (λ m h. refl);
-        moves = moves-flags g p (Aside g e t) nobody e 0 s′ t (λ l a b. refl) (λ m. inl refl) (λ m z. refl) (omega arith) (omega arith) (λ m z w. flags m (λ y. z (inr (inl y))));
+        moves = moves-flags g p (Aside g e t) nobody e 0 s′ t (λ m. inl refl) (λ m z. refl) (omega arith) (omega arith) (λ m z w. flags m (λ y. z (inr (inl y))));
       }
     where
       again : Due g p s′ e → Due g p s e
@@ -224,7 +224,7 @@ module _ (g : Given) (st : Static g) (p : ℕ → Value) (ρ : Records) (e : ℕ
                     (λ z. tv .rec m h k gn (off m (eqb-false m e z)));
               }) (λ z y. not-due y) (frame-gone g st (Run g st e) (Run g st e) (Low g e) e s′ t pop (w .inside) (w .frame));
               moves = moves-then g p (Aside g e x) nobody e e much 0 s′ t x (i .lists) (w .inside .lists) (wide x) (to-t x)
-                  (moves-flags g p (Aside g e x) nobody e 0 t x (λ l y z. refl) (λ m. inl refl) (λ m z. refl) (omega arith) (omega arith) (λ m z y. flags m (λ u. z (inr (inl u)))));
+                  (moves-flags g p (Aside g e x) nobody e 0 t x (λ m. inl refl) (λ m z. refl) (omega arith) (omega arith) (λ m z y. flags m (λ u. z (inr (inl u)))));
             }
           where
             off : (m : ℕ) → (m ≡ e → ⊥) → Run g st e m → ⊥

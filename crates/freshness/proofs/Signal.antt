@@ -112,7 +112,7 @@ module _ (g : Given) (st : Static g) (p : ℕ → Value) (ρ : Records) (X : Set
         (ap (λ (x : Named). x .pending) (flags (s .sub (l .slot)) (not-sub (l .slot) (l .is-live)))
         ∙ v .mark (l .slot) (l .is-live) (subst (λ (x : ℕ). readable (g .kind x) ≡ true) (sym (l .to)) (ap readable sg)) (λ a. na (subst X (l .from) a))
         (subst (λ (x : ℕ). unclean (s .fl x) ≡ true) (sym (l .to)) (dirty-unclean (s .fl n) di)));
-    moves = moves-flags g p (Low g (suc n)) (only n) (suc n) 0 s _ (λ l a b. refl)
+    moves = moves-flags g p (Low g (suc n)) (only n) (suc n) 0 s _
         (λ m. up-by (s .sto) n (s .pend n) (λ (x : Value). (x ≡ s .sto m) ⊎ ((x ≡ φ g p m) × (m < suc n))) m (λ q. inr (fresh ∙ ap (φ g p) (sym q), omega arith)) (λ q. inl refl))
         (λ m q. up-other (s .sto) n (s .pend n) m q) (omega arith) (omega arith) (λ m a q. flags m (λ e. q (ap (g .kind) e ∙ sg)));
   }

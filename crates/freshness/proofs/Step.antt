@@ -1,5 +1,5 @@
 -- (b): one read inside an evaluation of u, and then the whole evaluation, from (a) for lower nodes. Assumes nothing.
-use mathlib.Core.Path.{_≡_, refl, sym, ap, _∙_, subst}
+use mathlib.Core.Path.{_≡_, sym, ap, _∙_, subst}
 use mathlib.Core.Logic.{_⊎_, inl, inr}
 use mathlib.Core.Bool.{true}
 use mathlib.Core.List.{List, [], _∷_, _++_}
@@ -69,7 +69,7 @@ module _ (g : Given) (st : Static g) (p : ℕ → Value) (ρ : Records) (k : ℕ
       let same : (l : ℕ) → In l (t .done u ++ t .rest u) → (x .dep l ≡ t .dep l) × (x .ver l ≡ t .ver l) =
       λ l j. let o = m .base .inside .lists .deps-live l u j in
       let off : Low g (suc n) (t .sub l) → ⊥ = λ z. far (subst (Low g (suc n)) (o .1) z) in
-      (w .frame .links l (o .0) off .1, a .moves .ver l (o .0) off) in
+      (w .frame .links l (o .0) off .1, w .frame .ver l (o .0) off) in
       let ev : Evaluating x u start ms =
       subst (λ (d : List ℕ). Evaluated d (x .rest u) (x .dep) (x .ver) start ms) (sym (lists .0))
       (subst (λ (r : List ℕ). Evaluated (t .done u) r (x .dep) (x .ver) start ms) (sym (lists .1))
@@ -84,7 +84,7 @@ module _ (g : Given) (st : Static g) (p : ℕ → Value) (ρ : Records) (k : ℕ
       let near : (z : ℕ) → Low g (suc n) z → Near g st u z = λ z v. let b = v .1 in inl (v .0, omega arith) in
       let x-moves = moves-wider g p (Low g (suc n)) (Near g st u) nobody nobody (suc n) u (c t n) (c t n) t x near (λ z v. v) (omega arith) (omega arith) (a .moves) in
       let to-x = moves-then g p (Near g st u) nobody u u (m .much) (c t n) s₀ t x (i₀ .lists) (m .base .inside .lists) (m .base .frame) (m .moves) x-moves in
-      let to-y = moves-then g p (Near g st u) nobody u u (m .much + c t n) 0 s₀ x y (i₀ .lists) (w .inside .lists) (wd .frame) to-x (link-moves g p (Near g st u) u x n u (x .cycle) (w .inside .lists) (inr refl)) in
+      let to-y = moves-then g p (Near g st u) nobody u u (m .much + c t n) 0 s₀ x y (i₀ .lists) (w .inside .lists) (wd .frame) to-x (link-moves g p (Near g st u) u x n u (x .cycle)) in
       let here : y .sto n ≡ φ g p n = ap (λ (f : ℕ → Value). f n) (q .sto) ∙ a .value in
       let len : suc i ≡ length (ms ++ n ∷ []) = let z = length-append ms (n ∷ []) in omega arith in
       let old : (d : ℕ) → In d ms → (y .fl d ≡ f1) × (y .sto d ≡ φ g p d) =

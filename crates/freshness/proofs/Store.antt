@@ -10,7 +10,7 @@ use Rattle.primitive.specs.declared.flags.Named.{Named}
 use Rattle.primitive.specs.declared.values.Value.{Value}
 use Rattle.primitive.specs.Values.{same}
 use Rattle.primitive.proofs.ValueLaws.{same-yes}
-use Rattle.meaning.specs.State.{St, signal, effect, Row, readable, unclean, f2, f17, up}
+use Rattle.meaning.specs.State.{St, signal, effect, Row, readable, aSignal, unclean, f2, f17, up}
 use Rattle.meaning.specs.Setters.{setFl, setPend}
 use Rattle.meaning.specs.Links.{isNil}
 use Rattle.meaning.specs.Marks.{propagate}
@@ -19,7 +19,7 @@ use Rattle.meaning.specs.WellFormed.{In, Once, EffectFlags, watching, pushed, p
 use Rattle.freshness.specs.Afresh.{recorded, Differs}
 use Rattle.meaning.specs.Evaluations.{countStore}
 use Rattle.freshness.specs.Evaluations.{inFlushAt, inStore}
-use Rattle.meaning.proofs.Laws.{clash, either, up-other, up-by}
+use Rattle.meaning.proofs.Laws.{clash, either, provided-so, up-other, up-by}
 use Rattle.meaning.proofs.Members.{nil-none, isNil-true}
 use Rattle.meaning.proofs.Still.{Given}
 use Rattle.meaning.proofs.Flush.{whos}
@@ -169,8 +169,9 @@ module _ (g : Given) (st : Static g) (p : ℕ → Value) (ρ : Records) (s : St)
   unfolding store countStore resting
   store-fresh =
       let P : St → ℕ → Type 0 = λ x k. s .cycle + k < limit → Written g p′ ρ k s x in
-      branches P (same (s .pend n) v) (λ e fits. unchanged (same-yes (s .pend n) v e))
-      (λ e. branches P (isNil (s .subs n)) (λ f fits. unheard (isNil-true (s .subs n) f)) (λ f. flushed (s .depth) refl))
+      provided-so (λ (x : St). P x (inStore s n v)) (aSignal (s .kind n)) (ap (λ (z : Given). aSignal (z .kind n)) (i .same) ∙ ap aSignal kn)
+      (branches P (same (s .pend n) v) (λ e fits. unchanged (same-yes (s .pend n) v e))
+      (λ e. branches P (isNil (s .subs n)) (λ f fits. unheard (isNil-true (s .subs n) f)) (λ f. flushed (s .depth) refl)))
     where
       -- the value is the last written one
       unchanged : s .pend n ≡ v → Written g p′ ρ 0 s s

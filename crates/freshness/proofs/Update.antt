@@ -100,12 +100,12 @@ module _ (g : Given) (st : Static g) (p : ℕ → Value) (ρ : Records) (k : ℕ
         near m (inr q) = (ap (g .kind) q ∙ kn, omega arith)
 
     -- a step from the state after the evaluation that stores and leaves all else outside
-    to-end : (t : St) → t .sto ≡ stored .sto → t .ver ≡ stored .ver → t .cycle ≡ stored .cycle → ((m : ℕ) → (Low g (suc n) m → ⊥) → (g .kind m ≡ signal → ⊥) → t .fl m ≡ stored .fl m) → Frame g (Low g (suc n)) n s (out .st) → Moves g p (Low g (suc n)) (only n) (suc n) (j + much) s t
-    to-end t e₁ e₂ e₃ fs f =
+    to-end : (t : St) → t .sto ≡ stored .sto → t .cycle ≡ stored .cycle → ((m : ℕ) → (Low g (suc n) m → ⊥) → (g .kind m ≡ signal → ⊥) → t .fl m ≡ stored .fl m) → Frame g (Low g (suc n)) n s (out .st) → Moves g p (Low g (suc n)) (only n) (suc n) (j + much) s t
+    to-end t e₁ e₂ fs f =
         moves-wider g p (Low g (suc n)) (Low g (suc n)) (only n) (only n) (suc n) (suc n) (j + much + 0) (j + much) s t (λ m z. z) (λ m z. z) (omega arith) (omega arith)
         (moves-then g p (Low g (suc n)) (only n) (suc n) n (j + much) 0 s (out .st) t (i .lists) (mid .base .inside .lists) f
         (moves-wider g p (Low g (suc n)) (Low g (suc n)) nobody (only n) (suc n) (suc n) (j + much) (j + much) s (out .st) (λ m z. z) (λ m z. absurd z) (omega arith) (omega arith) to-out)
-        (moves-flags g p (Low g (suc n)) (only n) (suc n) 0 (out .st) t (λ l a b. ap (λ (x : ℕ → ℕ). x l) e₂)
+        (moves-flags g p (Low g (suc n)) (only n) (suc n) 0 (out .st) t
         (λ m. subst (λ (x : ℕ → Value). (x m ≡ out .st .sto m) ⊎ ((x m ≡ φ g p m) × (m < suc n))) (sym e₁)
         (up-by (out .st .sto) n (out .val) (λ (x : Value). (x ≡ out .st .sto m) ⊎ ((x ≡ φ g p m) × (m < suc n))) m (λ q. inr (fresh-value ∙ ap (φ g p) (sym q), omega arith)) (λ q. inl refl)))
         (λ m q. ap (λ (x : ℕ → Value). x m) e₁ ∙ up-other (out .st .sto) n (out .val) m q) (omega arith) (omega arith)
@@ -149,7 +149,7 @@ module _ (g : Given) (st : Static g) (p : ℕ → Value) (ρ : Records) (k : ℕ
           changed = told-changed (s .sto n) (out .val) (φ g p n) fresh-value;
           stays = λ a b. told-same (s .sto n) (out .val) (φ g p n) fresh-value a;
           marked = λ u w nx. pending-subs un t (fd .frame) (fd .inside) u (w .1) nx;
-          moves = to-end t (z .sto) (z .ver) (z .cycle) (λ m a q. pu .dropped .flags m (λ y. not-low m a q y) .0) f-out;
+          moves = to-end t (z .sto) (z .cycle) (λ m a q. pu .dropped .flags m (λ y. not-low m a q y) .0) f-out;
         }
       where
         rn : readable (g .kind n) ≡ true
@@ -181,7 +181,7 @@ module _ (g : Given) (st : Static g) (p : ℕ → Value) (ρ : Records) (k : ℕ
           changed = λ a. false≢true a;
           stays = λ a b. clash br b;
           marked = λ u w. false≢true (w .0);
-          moves = to-end stored refl refl refl (λ m a q. refl) f-out;
+          moves = to-end stored refl refl (λ m a q. refl) f-out;
         }
       where
         no-subs : Frame g (Low g (suc n)) n s stored → (m : ℕ) → union X (Touched stored n (not (same (out .st .sto n) (out .val)))) m → union X (Touched stored n false) m
@@ -220,7 +220,7 @@ module _ (g : Given) (st : Static g) (p : ℕ → Value) (ρ : Records) (k : ℕ
     }
 
     begun-moves : (cyc j : ℕ) (dn rs : ℕ → List ℕ) → s .cycle ≤ cyc → cyc ≤ s .cycle + j → Moves g p (Low g (suc n)) nobody (suc n) j s (begun cyc dn rs)
-    begun-moves cyc j dn rs lt ge = moves-flags g p (Low g (suc n)) nobody (suc n) j s (begun cyc dn rs) (λ l a b. refl) (λ m. inl refl) (λ m q. refl) lt ge (λ m a q. flags m (off m a))
+    begun-moves cyc j dn rs lt ge = moves-flags g p (Low g (suc n)) nobody (suc n) j s (begun cyc dn rs) (λ m. inl refl) (λ m q. refl) lt ge (λ m a q. flags m (off m a))
 
     pub updates : ((b : ℕ) → b + 1 < end → raised b ≡ b + 1) → unclean (s .fl n) ≡ true → s .cycle + inUpdate fr c computed s n < end → Fine g p ρ X (inUpdate fr c computed s n) s n (updComputed fr s n)
     unfolding updComputed inUpdate

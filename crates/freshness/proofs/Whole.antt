@@ -239,7 +239,7 @@ module _ (g : Given) (st : Static g) (p : ℕ → Value) (ρ : Records) where
             stays = λ q b. sym same-value ∙ fresh-now;
             marked = λ u y. false≢true (y .0);
             moves = moves-then g p (Low g (suc n)) (only n) (suc n) n (inCheck fr c s n) 0 s t (setFl t n f′) (i .lists) (w .inside .lists) wide checked
-                (moves-flags g p (Low g (suc n)) (only n) (suc n) 0 t (setFl t n f′) (λ l y z. refl) (λ m. inl refl) (λ m q. refl) (omega arith) (omega arith)
+                (moves-flags g p (Low g (suc n)) (only n) (suc n) 0 t (setFl t n f′) (λ m. inl refl) (λ m q. refl) (omega arith) (omega arith)
                 (λ m y q. flags m (λ e. y (ap (g .kind) e ∙ kn, omega arith))));
           }
 

@@ -14,7 +14,7 @@ use Rattle.primitive.specs.Values.{value, sum, difference, minimum, maximum, le
 use Rattle.formula.specs.Cells.{cellOf, codes, readOf, bareOf}
 use Rattle.formula.specs.Trees.{apply, written, size, names}
 use Rattle.meaning.specs.State.{up, below, empty}
-use Rattle.meaning.specs.Links.{remove, each, renew, spent, insert, link, cut, lastLink, disposeW, unwatchedW, unlinkN}
+use Rattle.meaning.specs.Links.{provided, remove, each, renew, spent, insert, link, cut, lastLink, disposeW, unwatchedW, unlinkN}
 use Rattle.meaning.specs.Marks.{chain, calm, effects, notify, mark, prop, soil, wakes}
 use Rattle.meaning.specs.Reads.{evalBy, settleW, firstW, updComputed, updSignal, updW, sameSlots, steady, checkOn, checkW, pendingW, freshW, fresh}
 use Rattle.meaning.specs.Engine.{logged, rerun, run, flushOn, store, tallest, newSignal, newComputed, newScope, newEffect}
@@ -93,7 +93,7 @@ longer : {C : Type 0} (r : Row) → [] ≡ r ∷ [] → C
 longer r e = let z = ap (λ (x : List Row). length x) e in absurd (omega arith)
 
 pub none-is-right : (Demand3 refuses → ⊥) × (Demand3 reads-0 → ⊥) × (Demand3 mute → ⊥) × (Demand3 loud → ⊥) × (Demand3 settles-once → ⊥) × (Demand3 stores-nothing → ⊥) × (Demand3 deep → ⊥) × (Demand3 forgets → ⊥)
-unfolding Demand3 sum difference minimum maximum less clamp same sameNumber isZero cellOf codes readOf bareOf apply written size names up below empty remove each renew spent insert link cut lastLink disposeW unwatchedW unlinkN chain calm effects notify mark prop soil wakes evalBy settleW firstW updComputed updSignal updW sameSlots steady checkOn checkW pendingW freshW fresh logged rerun run flushOn store tallest newSignal newComputed newScope newEffect noWord word wholeCells commands commandOf afterCells grown parse treeOf total reserve liveEffects asksOf isA unknown wrongNode goneNode allReadable badFormula tooHigh noRoom wrongDepth fewRows refusals first refusal perform performAny answer command recorded inFormula countFirst inUpdate inCheckOn inCheck inPending countFreshW countFresh countRerun countRun countFlushOn countStore countNewEffect countPerform inPerformAny inAnswer lastWritten next after afreshN afreshOf ownsN changed ran
+unfolding Demand3 sum difference minimum maximum less clamp same sameNumber isZero cellOf codes readOf bareOf apply written size names up below empty provided remove each renew spent insert link cut lastLink disposeW unwatchedW unlinkN chain calm effects notify mark prop soil wakes evalBy settleW firstW updComputed updSignal updW sameSlots steady checkOn checkW pendingW freshW fresh logged rerun run flushOn store tallest newSignal newComputed newScope newEffect noWord word wholeCells commands commandOf afterCells grown parse treeOf total reserve liveEffects asksOf isA unknown wrongNode goneNode allReadable badFormula tooHigh noRoom wrongDepth fewRows refusals first refusal perform performAny answer command recorded inFormula countFirst inUpdate inCheckOn inCheck inPending countFreshW countFresh countRerun countRun countFlushOn countStore countNewEffect countPerform inPerformAny inAnswer lastWritten next after afreshN afreshOf ownsN changed ran
 none-is-right = (
   λ d. let e : _≡_ {A = ℕ} 2 0 = d room refl [] signal5 (omega arith) .0 .code in absurd (omega arith),
   λ d. let e : nothing ≡ value (pos 5) = d room refl (signal5 ∷ []) read0 (omega arith) .0 .accepted (readIt (pos 0)) refl refl .value in false≢true (sym (ap isZero e)),

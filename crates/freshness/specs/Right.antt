@@ -5,13 +5,13 @@ use mathlib.Core.Bool.{Bool, true, false, _&&_}
 use mathlib.Core.List.{List, [], _∷_}
 use mathlib.Core.Option.{some}
 use Prim.Native.Nat.{ℕ, _<_, _^_}
-use lib.Dec.{eqb}
 use lib.IntN.{ℤ, pos}
 use Rattle.primitive.specs.declared.values.Value.{Value}
 use Rattle.primitive.specs.Values.{value}
 use Rattle.formula.specs.Trees.{Tree, worth}
 use Rattle.meaning.specs.State.{St, effect, signal, Room, capacities, Row, readable, nothing}
 use Rattle.meaning.specs.Words.{Command, makeSignal, makeComputed, makeEffect, makeScope, setTo, addTo, readOf, disposeOf, batchStart, batchEnd, commandOf, nodeOf}
+use Rattle.meaning.specs.Outcome.{flushes as flushesAt}
 use Rattle.freshness.specs.Afresh.{afreshOf, readings, Among, Differs}
 use Rattle.freshness.specs.Nodes.{Nodes, stripped, changed}
 use Rattle.freshness.specs.History.{Call, Reply, seen, Engine, meant, Past, now, after, begin}
@@ -45,16 +45,7 @@ Run Cause g rs = ((e : ℕ) → HasRow e rs → Cause e) × ((e : ℕ) → LiveE
 
 -- a flush follows: a set or add at depth 0, also where nothing is queued, or an end at depth 1
 abbrev pub flushes : Past → Command → Bool
-flushes p (makeSignal v) = false
-flushes p (makeComputed cs) = false
-flushes p (makeEffect o cs) = false
-flushes p (makeScope o) = false
-flushes p (setTo n v) = eqb (p .depth) 0
-flushes p (addTo n d) = eqb (p .depth) 0
-flushes p (readOf n) = false
-flushes p (disposeOf n) = false
-flushes p batchStart = false
-flushes p batchEnd = eqb (p .depth) 1
+flushes p k = flushesAt k (p .depth)
 
 -- it closes a single write, or a batch that held only writes
 abbrev pub closes : Past → Command → Bool

@@ -24,7 +24,7 @@ use Rattle.meaning.specs.Refusals.{Sight, sightOf, asksOf, aSignal, anOw
 use Rattle.meaning.specs.WellFormed.{In, WellFormed}
 use Rattle.meaning.specs.Commands.{perform, performAny, answer, command}
 use Rattle.meaning.specs.Cases.{afterAll}
-use Rattle.meaning.proofs.Laws.{false≢true, none-some, same-some, branch, or-left, or-right}
+use Rattle.meaning.proofs.Laws.{false≢true, none-some, same-some, branch, provided-by, or-left, or-right}
 use Rattle.meaning.proofs.Rings.{dispose-ring, settle-ring}
 use Rattle.meaning.proofs.Still.{Given, given, Fixed, Still, drops-still, renews-still}
 use Rattle.meaning.proofs.Flush.{Lasting, run-lasts, flush-empties}
@@ -58,8 +58,9 @@ Calm t = t .depth ≡ 0 → t .queue ≡ []
 pub store-calm : (s : St) (n : ℕ) (v : Value) → Calm s → (store s n v .depth ≡ s .depth) × Calm (store s n v)
 unfolding store
 store-calm s n v c =
-    branch (λ (t : St). (t .depth ≡ s .depth) × Calm t) (same (s .pend n) v) (λ e. (refl, c))
-    (λ e. branch (λ (t : St). (t .depth ≡ s .depth) × Calm t) (isNil (s .subs n)) (λ f. (refl, c)) (λ f. go (s .depth) refl))
+    let P : St → Type 0 = λ t. (t .depth ≡ s .depth) × Calm t in
+    let k = branch P (same (s .pend n) v) (λ e. (refl, c)) (λ e. branch P (isNil (s .subs n)) (λ f. (refl, c)) (λ f. go (s .depth) refl)) in
+    provided-by P (aSignal (s .kind n)) k k
   where
     go : (d : ℕ) → s .depth ≡ d → (flushAt (propagate (setFl (setPend s n v) n f17) n) d .depth ≡ s .depth) × Calm (flushAt (propagate (setFl (setPend s n v) n f17) n) d)
     go zero e = let q = propagate (setFl (setPend s n v) n f17) n in (flush-depth (q .queue) q, λ z. flush-empties q)

@@ -18,7 +18,7 @@ use Rattle.meaning.specs.Words.{Command, makeSignal, makeComputed, makeE
 use Rattle.meaning.specs.Refusals.{Sight, sightOf, asksOf, aSignal, anOwner, unknown, wrongNode, goneNode, badFormula, tooHigh, noRoom, wrongDepth, table, refusal}
 use Rattle.meaning.specs.WellFormed.{In, readLinks, WellFormed}
 use Rattle.meaning.specs.Commands.{perform, performAny, answer, command}
-use Rattle.meaning.proofs.Laws.{false≢true, none-some, branch}
+use Rattle.meaning.proofs.Laws.{false≢true, none-some, branch, provided-so}
 use Rattle.meaning.proofs.Still.{Given, given}
 use Rattle.meaning.proofs.Flush.{whos}
 use Rattle.meaning.proofs.Refused.{NoneHolds, accepted-exactly}
@@ -81,8 +81,9 @@ module _ (s : St) (rows : ℕ) (w : WellFormed s) where
   stored : (n : ℕ) (x : Value) → (n < s .size) × (aSignal (s .kind n) ≡ true) → Bound s (store (withLog s []) n x)
   unfolding store
   stored n x k =
-      branch (Bound s) (same (s .pend n) x) (λ e. by-same _ refl (λ m lo ke a. record { links = refl; ends = λ l j. (refl, refl) }))
-      (λ e. branch (Bound s) (isNil (s .subs n)) (λ f. by-same _ refl (λ m lo ke a. record { links = refl; ends = λ l j. (refl, refl) })) (λ f. go (s .depth)))
+      provided-so (Bound s) (aSignal (s .kind n)) (k .1)
+      (branch (Bound s) (same (s .pend n) x) (λ e. by-same _ refl (λ m lo ke a. record { links = refl; ends = λ l j. (refl, refl) }))
+      (λ e. branch (Bound s) (isNil (s .subs n)) (λ f. by-same _ refl (λ m lo ke a. record { links = refl; ends = λ l j. (refl, refl) })) (λ f. go (s .depth))))
     where
       go : (d : ℕ) → Bound s (flushAt (propagate (setFl (setPend (withLog s []) n x) n f17) n) d)
       go zero = flushed _ (i-propagated g st (withLog s []) n x i (k .0) (is-signal s rows w (s .kind n) (k .1)) .inside) refl refl refl refl refl

@@ -8,7 +8,7 @@ use native.Mathlib.Omega.{arith}
 use Rattle.primitive.specs.declared.values.Value.{Value}
 use Rattle.primitive.specs.Values.{same}
 use Rattle.formula.specs.Trees.{Tree}
-use Rattle.meaning.specs.State.{St, Row, computed, effect, f6, f17, nothing, raised}
+use Rattle.meaning.specs.State.{St, Row, computed, effect, aSignal, f6, f17, nothing, raised}
 use Rattle.meaning.specs.Setters.{withLog, withDepth, setFl, setPend}
 use Rattle.meaning.specs.Links.{isNil, headOf, lastOf, goesTo, isFrom, renew, insert, link, cut}
 use Rattle.meaning.specs.Marks.{propagate}
@@ -17,7 +17,7 @@ use Rattle.meaning.specs.Engine.{logged, rerun, flushOn, flushAt, store,
 use Rattle.meaning.specs.Words.{Command, makeSignal, makeComputed, makeEffect, makeScope, setTo, addTo, readOf, disposeOf, batchStart, batchEnd, nodeOf, ownerOf, formulaOf}
 use Rattle.meaning.specs.Evaluations.{inUpdate, countFirst, countFresh, countEvaluation, countRerun, countFlushOn, countFlushAt, countStore, countNewEffect, countEnd, countPerform, reevaluations}
 use Rattle.meaning.specs.Commands.{perform}
-use Rattle.meaning.proofs.Laws.{branch, branches}
+use Rattle.meaning.proofs.Laws.{branch, branches, provided-by}
 use Rattle.meaning.proofs.Rings.{Drops, Counts, dispose-ring, first-count, computed-count, fresh-count, settle-count, evaluate-count, rerun-count, flush-count}
 
 -- raised so many times
@@ -104,8 +104,9 @@ store-cycle : (s : St) (n : ℕ) (v : Value) → Raised (countStore false s n v)
 unfolding store countStore raisedBy
 store-cycle s n v =
     let p = propagate (setFl (setPend s n v) n f17) n in
-    branches (λ (t : St) (m : ℕ). Raised m s t) (same (s .pend n) v) (λ a. refl)
-    (λ a. branches (λ (t : St) (m : ℕ). Raised m s t) (isNil (s .subs n)) (λ b. refl) (λ b. flushAt-cycle p (p .depth)))
+    let r = branches (λ (t : St) (m : ℕ). Raised m s t) (same (s .pend n) v) (λ a. refl)
+    (λ a. branches (λ (t : St) (m : ℕ). Raised m s t) (isNil (s .subs n)) (λ b. refl) (λ b. flushAt-cycle p (p .depth))) in
+    provided-by (Raised (countStore false s n v) s) (aSignal (s .kind n)) r r
 
 end-cycle : (s : St) (d : ℕ) → Raised (countEnd false s d) s (endAt s d)
 unfolding raisedBy

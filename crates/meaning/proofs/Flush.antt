@@ -9,9 +9,11 @@ use Rattle.primitive.specs.declared.values.Value.{Value}
 use Rattle.meaning.specs.State.{St, Row, f2, f6, raised}
 use Rattle.meaning.specs.Setters.{withCycle, withQueue, setFl}
 use Rattle.meaning.specs.Links.{rewind, purge}
+use Rattle.meaning.specs.Marks.{isEffect}
 use Rattle.meaning.specs.Reads.{check, evaluate}
 use Rattle.meaning.specs.Engine.{logged, rerun, run, flushOn, flush}
 use Rattle.meaning.specs.WellFormed.{In, Once}
+use Rattle.meaning.proofs.Laws.{provided-by}
 use Rattle.meaning.proofs.Steps.{run-by}
 use Rattle.meaning.proofs.Rings.{Runs, weaker-renews, purge-ring, check-ring, evaluate-ring, run-ring}
 use Rattle.meaning.proofs.Still.{Given, given, Fixed, Still, drops-still, renews-still}
@@ -70,7 +72,8 @@ rerun-row s e =
     let y = setFl (logged o e) e f2 in
     let r : Row = record { who = e; worth = o .val; reads = o .reads } in
     let p : o .st .log ≡ s .log = log-still t (o .st) (evaluate-ring Still renews-still t e) in
-    (r, refl, log-still y (purge y e) (purge-ring Still drops-still y e) ∙ ap (λ (l : List Row). l ++ r ∷ []) p)
+    let z : purge y e .log ≡ s .log ++ r ∷ [] = log-still y (purge y e) (purge-ring Still drops-still y e) ∙ ap (λ (l : List Row). l ++ r ∷ []) p in
+    (r, refl, provided-by (λ (x : St). x .log ≡ s .log ++ r ∷ []) (isEffect (s .kind e)) z z)
 
 rerun-logs : (s : St) (e : ℕ) → Logs s e (rerun s e)
 rerun-logs s e = inr (rerun-row s e)

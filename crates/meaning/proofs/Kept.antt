@@ -10,7 +10,7 @@ use Rattle.primitive.specs.declared.flags.Named.{Named}
 use Rattle.primitive.specs.declared.values.Value.{Value}
 use Rattle.primitive.specs.Values.{value, sum, same}
 use Rattle.formula.specs.Trees.{Tree, constant}
-use Rattle.meaning.specs.State.{St, Kind, signal, computed, effect, scope, f0, f1, f2, f6, f17, nothing}
+use Rattle.meaning.specs.State.{St, Kind, signal, computed, effect, scope, aSignal, f0, f1, f2, f6, f17, nothing}
 use Rattle.meaning.specs.Setters.{withLog, withDepth, setFl, setPend}
 use Rattle.meaning.specs.Links.{isNil, link}
 use Rattle.meaning.specs.Marks.{propagate}
@@ -20,7 +20,7 @@ use Rattle.meaning.specs.Words.{Command, makeSignal, makeComputed, makeE
 use Rattle.meaning.specs.Refusals.{sightOf, refusal}
 use Rattle.meaning.specs.Commands.{perform, performAny, answer, command}
 use Rattle.meaning.specs.Outcome.{madeBy}
-use Rattle.meaning.proofs.Laws.{branch, up-other}
+use Rattle.meaning.proofs.Laws.{branch, provided-by, up-other}
 use Rattle.meaning.proofs.Rings.{Drops, Renews, Runs, weaker-drops, weaker-renews, dispose-ring, settle-ring, evaluate-ring, run-ring, flush-ring}
 use Rattle.meaning.proofs.Still.{Given, given, Fixed, Still, link-still, drops-still, renews-still}
 
@@ -62,8 +62,9 @@ store-keeps s n v =
     let t = setFl (setPend s n v) n f17 in
     let p = propagate t n in
     let a : Keeps s p = record { still = refl; gone = λ n e. e } in
-    branch (Keeps s) (same (s .pend n) v) (λ e. keeps s)
-    (λ e. branch (Keeps s) (isNil (s .subs n)) (λ f. record { still = refl; gone = λ n e. e }) (λ f. keeps-then s p _ a (at p (p .depth))))
+    let k = branch (Keeps s) (same (s .pend n) v) (λ e. keeps s)
+    (λ e. branch (Keeps s) (isNil (s .subs n)) (λ f. record { still = refl; gone = λ n e. e }) (λ f. keeps-then s p _ a (at p (p .depth)))) in
+    provided-by (Keeps s) (aSignal (s .kind n)) k (record { still = k .still; gone = k .gone })
   where
     at : (p : St) (d : ℕ) → Keeps p (flushAt p d)
     at p zero = flushOn-keeps (p .queue) p

@@ -8,7 +8,8 @@ use Prim.Native.Nat.{ℕ}
 use native.Mathlib.Omega.{arith}
 use lib.Dec.{T, eqb}
 use borrow.Author.Tests.{eq-eqb, ne-eqb, eqb-true, eqb-false}
-use Rattle.meaning.specs.State.{up}
+use Rattle.meaning.specs.State.{St, up}
+use Rattle.meaning.specs.Links.{stop, provided}
 use Rattle.meaning.specs.WellFormed.{In}
 
 -- ---- Booleans
@@ -32,6 +33,19 @@ branch P false f g = g refl
 pub branches {ℓ κ ι} : {A : Type ℓ} {B : Type κ} (P : A → B → Type ι) (b : Bool) {x y : A} {v w : B} → (b ≡ true → P x v) → (b ≡ false → P y w) → P (elim b [ true ↦ x | false ↦ y ]) (elim b [ true ↦ v | false ↦ w ])
 branches P true f g = f refl
 branches P false f g = g refl
+
+-- ---- `provided`: the test holds
+pub provided-same : (b : Bool) (s : St) → b ≡ true → provided b s ≡ s
+unfolding provided
+provided-same b s h = branch (λ (x : St). x ≡ s) b (λ e. refl) (λ e. clash h e)
+
+pub provided-so : (P : St → Type 0) (b : Bool) {s : St} → b ≡ true → P s → P (provided b s)
+provided-so P b {s} h p = subst P (sym (provided-same b s h)) p
+
+-- or it may not
+pub provided-by : (P : St → Type 0) (b : Bool) {s : St} → P s → P (stop s) → P (provided b s)
+unfolding provided
+provided-by P b p q = branch P b (λ e. p) (λ e. q)
 
 -- ---- or
 pub or-true : (b : Bool) → b || true ≡ true

@@ -43,8 +43,12 @@ pub mod Disposed
 pub mod Unwatched
 pub mod Throughout
 pub mod Stepped
+pub mod Checking
+pub mod Enough
+pub mod Turning
 pub mod NotSo
 pub mod Cycle
 pub mod Valued
 pub mod Written
 pub mod Promised
+pub mod InOrder

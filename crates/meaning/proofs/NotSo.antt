@@ -6,7 +6,7 @@ use Rattle.primitive.specs.Values.{sum, difference, minimum, maximum, less, cla
 use Rattle.formula.specs.Cells.{cellOf, codes, readOf, bareOf}
 use Rattle.formula.specs.Trees.{apply, written, size, names}
 use Rattle.meaning.specs.State.{up, below, empty}
-use Rattle.meaning.specs.Links.{remove, each, renew, spent, insert, link, cut, lastLink, disposeW, unwatchedW, unlinkN}
+use Rattle.meaning.specs.Links.{provided, remove, each, renew, spent, insert, link, cut, lastLink, disposeW, unwatchedW, unlinkN}
 use Rattle.meaning.specs.Marks.{chain, calm, effects, notify, mark, prop, soil, wakes}
 use Rattle.meaning.specs.Reads.{evalBy, settleW, firstW, updComputed, updSignal, updW, sameSlots, steady, checkOn, checkW, pendingW, freshW, fresh}
 use Rattle.meaning.specs.Engine.{logged, rerun, run, flushOn, store, tallest, newSignal, newComputed, newScope, newEffect}
@@ -40,7 +40,7 @@ pub a-moment : Moment before (dispose before 1) marked
 a-moment = record { reached = later here (marks-gone 1); left = purging-ring _ drops before 1 }
 
 pub more-than-reserve : (liveLinks marked ≡ 1) × (reserve marked ≡ 0)
-unfolding sum difference minimum maximum less clamp same sameNumber isZero cellOf codes readOf bareOf apply written size names up below empty remove each renew spent insert link cut lastLink disposeW unwatchedW unlinkN chain calm effects notify mark prop soil wakes evalBy settleW firstW updComputed updSignal updW sameSlots steady checkOn checkW pendingW freshW fresh logged rerun run flushOn store tallest newSignal newComputed newScope newEffect noWord word wholeCells commands commandOf after grown parse treeOf total reserve liveEffects asksOf isA unknown wrongNode goneNode allReadable badFormula tooHigh noRoom wrongDepth fewRows refusals first refusal perform performAny answer command afterAll
+unfolding sum difference minimum maximum less clamp same sameNumber isZero cellOf codes readOf bareOf apply written size names up below empty provided remove each renew spent insert link cut lastLink disposeW unwatchedW unlinkN chain calm effects notify mark prop soil wakes evalBy settleW firstW updComputed updSignal updW sameSlots steady checkOn checkW pendingW freshW fresh logged rerun run flushOn store tallest newSignal newComputed newScope newEffect noWord word wholeCells commands commandOf after grown parse treeOf total reserve liveEffects asksOf isA unknown wrongNode goneNode allReadable badFormula tooHigh noRoom wrongDepth fewRows refusals first refusal perform performAny answer command afterAll
 more-than-reserve = (refl, refl)
 
 -- ---- "the links made in an evaluation bear the cycle that was raised for it": a read that evaluates again raises it once more
@@ -50,5 +50,5 @@ rerun-once = afterAll (empty small) rows (signalW (pos 0) ∷ computedW (read 0)
 
 -- the effect's rerun raised the cycle to 1, and its read of the computed to 2
 pub two-versions : (rerun-once .cycle ≡ 2) × (depEnds rerun-once (deps rerun-once 2) ≡ (0, 1) ∷ (1, 2) ∷ [])
-unfolding sum difference minimum maximum less clamp same sameNumber isZero cellOf codes readOf bareOf apply written size names up below empty remove each renew spent insert link cut lastLink disposeW unwatchedW unlinkN chain calm effects notify mark prop soil wakes evalBy settleW firstW updComputed updSignal updW sameSlots steady checkOn checkW pendingW freshW fresh logged rerun run flushOn store tallest newSignal newComputed newScope newEffect noWord word wholeCells commands commandOf after grown parse treeOf total reserve liveEffects asksOf isA unknown wrongNode goneNode allReadable badFormula tooHigh noRoom wrongDepth fewRows refusals first refusal perform performAny answer command afterAll depEnds
+unfolding sum difference minimum maximum less clamp same sameNumber isZero cellOf codes readOf bareOf apply written size names up below empty provided remove each renew spent insert link cut lastLink disposeW unwatchedW unlinkN chain calm effects notify mark prop soil wakes evalBy settleW firstW updComputed updSignal updW sameSlots steady checkOn checkW pendingW freshW fresh logged rerun run flushOn store tallest newSignal newComputed newScope newEffect noWord word wholeCells commands commandOf after grown parse treeOf total reserve liveEffects asksOf isA unknown wrongNode goneNode allReadable badFormula tooHigh noRoom wrongDepth fewRows refusals first refusal perform performAny answer command afterAll depEnds
 two-versions = (refl, refl)

@@ -25,7 +25,7 @@ use Rattle.meaning.specs.Owners.{Below}
 use Rattle.meaning.specs.WellFormed.{In, Once, WellFormed}
 use Rattle.meaning.specs.Commands.{perform, performAny, Answer, answer, command, runs}
 use Rattle.meaning.specs.Outcome.{firstRow, flushes, MayRun, made, flushed, MustGo, disposed, owned as had}
-use Rattle.meaning.proofs.Laws.{clash, false≢true, branch, up-same, up-other}
+use Rattle.meaning.proofs.Laws.{clash, false≢true, branch, provided-so, up-same, up-other}
 use Rattle.meaning.proofs.Owning.{below-known}
 use Rattle.meaning.proofs.Rings.{dispose-ring, settle-ring, evaluate-ring}
 use Rattle.meaning.proofs.Still.{Given, given, Fixed, fixed, Still, link-still, drops-still, renews-still}
@@ -123,8 +123,9 @@ module _ (s : St) (rows : ℕ) (w : WellFormed s) where
   store-told : (c : Command) (n : ℕ) (x : Value) → n < s .size → s .kind n ≡ signal → (s .depth ≡ 0 → (flushes c (s .depth) ≡ true) × (liveEffects s ≤ asksOf c .rows v)) → Told c (store (withLog s []) n x)
   unfolding store
   store-told c n x h k at =
-      branch (Told c) (same (s .pend n) x) (λ e. told-calm c _ refl refl (λ m r. refl))
-      (λ e. branch (Told c) (isNil (s .subs n)) (λ f. told-calm c _ refl refl (λ m r. refl)) (λ f. go (s .depth) refl))
+      provided-so (Told c) (aSignal (s .kind n)) (ap aSignal k)
+      (branch (Told c) (same (s .pend n) x) (λ e. told-calm c _ refl refl (λ m r. refl))
+      (λ e. branch (Told c) (isNil (s .subs n)) (λ f. told-calm c _ refl refl (λ m r. refl)) (λ f. go (s .depth) refl)))
     where
       go : (d : ℕ) → s .depth ≡ d → Told c (flushAt (propagate (setFl (setPend (withLog s []) n x) n f17) n) d)
       go zero e = told-flush c (propagate (setFl (setPend (withLog s []) n x) n f17) n) (i-propagated g st (withLog s []) n x i h k .inside) refl refl refl refl (at e .0) (at e .1)

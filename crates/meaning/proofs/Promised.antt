@@ -1,5 +1,5 @@
 -- What document 01 says of an accepted command, from any well-formed tables: the theorems to read. Their labour stands elsewhere. Assumes nothing.
--- Beside them: `command-kept`, `never-stuck` (Accepted), `command-stays` (Kept), `links-bound` (Bound), `given-exactly`, `end-refused`, `refused-unchanged` (Refused), `emptying-answers`, `empty-is` (Emptied), and the laws of Steps.
+-- Beside them: `command-kept`, `never-stuck` (Accepted), `command-stays` (Kept), `links-bound` (Bound), `given-exactly`, `end-refused`, `refused-unchanged` (Refused), `emptying-answers`, `empty-is` (Emptied), `rows-in-order` (InOrder), and the laws of Steps.
 use mathlib.Core.Path.{_≡_, refl, sym, ap, _∙_, subst}
 use mathlib.Core.Logic.{_⊎_, inl, _↔_}
 use mathlib.Core.Bool.{true, false}
@@ -18,7 +18,7 @@ use Rattle.meaning.specs.Links.{several, link, cut, unlink}
 use Rattle.meaning.specs.Marks.{Marks, marksOf, notify, prop, turns, propagate}
 use Rattle.meaning.specs.Words.{Command, makeComputed, makeEffect, readOf, disposeOf, batchStart, batchEnd, commandOf, nodeOf, ownerOf, formulaOf}
 use Rattle.meaning.specs.Reserve.{total, reserveOf, reserve, liveLinks}
-use Rattle.meaning.specs.Refusals.{sightOf, asksOf}
+use Rattle.meaning.specs.Refusals.{sightOf, asksOf, aSignal, wrongNode, table}
 use Rattle.meaning.specs.WellFormed.{In, Once, WellFormed}
 use Rattle.meaning.specs.Reach.{Reached}
 use Rattle.meaning.specs.Order.{Walked}
@@ -27,7 +27,7 @@ use Rattle.meaning.specs.Engine.{store, newComputed, endAt}
 use Rattle.meaning.specs.Moments.{flushing, Steps, here, later, links, Moment, begun, reserveFrom}
 use Rattle.meaning.specs.Evaluations.{reevaluations}
 use Rattle.meaning.specs.Commands.{number, perform, Answer, command, runs}
-use Rattle.meaning.specs.Outcome.{firstRow, flushes, MayRun, made, flushed, MustGo, disposed, owned as had, Writes, madeBy, valueOf}
+use Rattle.meaning.specs.Outcome.{firstRow, flushes, MayRun, made, flushed, MustGo, disposed, owned as had, Writes, sets, adds, madeBy, valueOf}
 use Rattle.meaning.proofs.Laws.{clash, either, up-same}
 use Rattle.meaning.proofs.Still.{given}
 use Rattle.meaning.proofs.Flush.{whos}
@@ -39,7 +39,8 @@ use Rattle.meaning.proofs.Frames.{others}
 use Rattle.meaning.proofs.Kept.{command-stays, perform-makes}
 use Rattle.meaning.proofs.Walking.{i-written, i-propagated, propagate-turns, propagate-inside}
 use Rattle.meaning.proofs.Made.{at-rest}
-use Rattle.meaning.proofs.Accepted.{command-kept}
+use Rattle.meaning.proofs.Refused.{NoneHolds}
+use Rattle.meaning.proofs.Accepted.{taken, is-signal, command-kept}
 use Rattle.meaning.proofs.Owning.{below-high}
 use Rattle.meaning.proofs.Outcome.{new-row, command-told}
 use Rattle.meaning.proofs.Moments.{flushing-queue, drop-once, gone-passed}
@@ -142,21 +143,29 @@ module _ (s : St) (rows : ℕ) (ws : List ℤ) (w : WellFormed s) (ok : command 
     stored : t ≡ store (withLog s []) n x
     stored = ap (λ (z : Answer). z .st) (performed s rows ws c is ok .0) ∙ writes-store s wr
 
+    to-signal : s .kind n ≡ signal
+    unfolding table wrongNode asksOf
+    to-signal = go wr (performed s rows ws c is ok .1)
+      where
+        go : {c : Command} {n : ℕ} {x : Value} → Writes s c n x → NoneHolds (table true (sightOf s rows) (some c)) → s .kind n ≡ signal
+        go (sets n v) h = is-signal s rows w (s .kind (nodeOf n)) (taken s rows w aSignal n (h 2) .1)
+        go (adds n v) h = is-signal s rows w (s .kind (nodeOf n)) (taken s rows w aSignal n (h 2) .1)
+
     -- the old pending value: nothing happens
     pub same-write-is-nothing : s .pend n ≡ x → t ≡ withLog s []
-    same-write-is-nothing e = stored ∙ stores-nothing (withLog s []) n x e
+    same-write-is-nothing e = stored ∙ stores-nothing (withLog s []) n x to-signal e
 
     -- another: it is pending after, and every other pending value as it was
     pub write-pends : (s .pend n ≡ x → ⊥) → t .pend ≡ up (s .pend) n x
-    write-pends e = ap (λ (z : St). z .pend) stored ∙ stores-pending (withLog s []) n x e
+    write-pends e = ap (λ (z : St). z .pend) stored ∙ stores-pending (withLog s []) n x to-signal e
 
     -- it is marked 17 and propagated from; that is all inside a batch
     pub write-waits : (s .pend n ≡ x → ⊥) → (d : ℕ) → s .depth ≡ suc d → t ≡ propagate (setFl (setPend (withLog s []) n x) n f17) n
-    write-waits e d h = stored ∙ stores-later (withLog s []) n x e d h
+    write-waits e d h = stored ∙ stores-later (withLog s []) n x to-signal e d h
 
     -- at depth 0 what is queued then runs, one after the other
     pub write-flushes : (s .pend n ≡ x → ⊥) → s .depth ≡ 0 → let p = propagate (setFl (setPend (withLog s []) n x) n f17) n in t ≡ flushing (length (p .queue)) p (p .queue)
-    write-flushes e h = stored ∙ stores-flush (withLog s []) n x e h (w .queued .at-depth-0 h)
+    write-flushes e h = stored ∙ stores-flush (withLog s []) n x to-signal e h (w .queued .at-depth-0 h)
 
   -- and so at the end of the outermost batch
   pub end-runs-queue : commandOf ws ≡ some batchEnd → s .depth ≡ 1 → t ≡ flushing (length (s .queue)) (withDepth (withLog s []) 0) (s .queue)
@@ -193,7 +202,7 @@ module _ (s : St) (rows : ℕ) (ws : List ℤ) (w : WellFormed s) (ok : command 
   pub new-lives : (n : ℕ) → s .size ≤ n → n < t .size → t .gone n ≡ false
   new-lives = let k = known s rows ws ok in command-told s rows w ws (k .0) (k .1) ok .lives
 
-  -- what is read has a value: the node is clean (flags 1; only flags 0 means no value), and its stored value is the answer. In a formula: `m-settled` (Reading)
+  -- why a read is not stuck for want of a value: the node is clean then (flags 1; only flags 0 means no value), and its stored value is the answer. In a formula: `m-settled` (Reading)
   pub read-has-value : (n : ℤ) → commandOf ws ≡ some (readOf n) → (t .fl (nodeOf n) ≡ f1) × (a .val ≡ t .sto (nodeOf n))
   read-has-value n is = read-valued s rows w ws n is ok
 

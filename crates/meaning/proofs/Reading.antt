@@ -1,5 +1,5 @@
 -- Evaluation inside an operation: each read brings its node up to date and links it; there is a slot for it, since at most as many reads are made as the formula names. Assumes nothing.
-use mathlib.Core.Path.{_≡_, refl, sym, ap, _∙_, subst}
+use mathlib.Core.Path.{_≡_, refl, sym, ap, ap₂, _∙_, subst}
 use mathlib.Core.Logic.{_⊎_, inl, inr}
 use mathlib.Core.Bool.{Bool, true, false, _||_}
 use mathlib.Core.List.{List, [], _∷_, _++_, append-nil}
@@ -11,12 +11,12 @@ use borrow.Author.Tests.{eqb-true, eqb-false}
 use Rattle.primitive.specs.declared.flags.Named.{Named}
 use Rattle.primitive.specs.Values.{isZero}
 use Rattle.formula.specs.Trees.{Tree, constant, read, two, choose, names}
-use Rattle.meaning.specs.State.{St, readable, rank, f1, up}
+use Rattle.meaning.specs.State.{St, Kind, signal, computed, effect, scope, readable, hasValue, rank, f1, up}
 use Rattle.meaning.specs.Links.{headOf, lastOf, goesTo, isFrom, renew, spent, insert, link}
-use Rattle.meaning.specs.Reads.{Ans, Out, evalBy, settleW, readW}
+use Rattle.meaning.specs.Reads.{Ans, Out, evalBy, spread, settleW, readW}
 use Rattle.meaning.specs.Reserve.{reserveOf, liveLinks}
 use Rattle.meaning.specs.WellFormed.{In, readLinks}
-use Rattle.meaning.proofs.Laws.{clash, false≢true, either, branch, or-false, up-same, up-other, in-left, in-right, in-cases}
+use Rattle.meaning.proofs.Laws.{clash, false≢true, either, branch, provided-same, or-false, up-same, up-other, in-left, in-right, in-cases}
 use Rattle.meaning.proofs.Members.{nil-none, reads-few, reads-append, reads-agree}
 use Rattle.meaning.proofs.Still.{Given}
 use Rattle.meaning.proofs.Inside.{Set, also, Static, Goes, Inside, reserved, widen, let-out}
@@ -24,6 +24,13 @@ use Rattle.meaning.proofs.Room.{ownerLinks, paid, spends, Paid, rests-p
 use Rattle.meaning.proofs.Linking.{renew-inside, insert-inside, other}
 use Rattle.meaning.proofs.Frames.{Low, Frame, frame-flags, frame-then, frame-wider, paid-frame, Open, rests-clean}
 use Rattle.meaning.proofs.Soiling.{shallow-inside, shallow-clean, shallow-frame}
+
+-- what can be read and is clean has a value
+clean-has : (k : Kind) → readable k ≡ true → hasValue k f1 ≡ true
+clean-has signal q = refl
+clean-has computed q = refl
+clean-has effect q = q
+clean-has scope q = q
 
 module _ (g : Given) (st : Static g) where
   -- the nodes of X that can be read lie above n
@@ -46,19 +53,28 @@ module _ (g : Given) (st : Static g) where
     pub frame : Frame g (Low g (suc (rank n))) (suc (rank n)) s t
     pub clean : t .fl n ≡ f1
 
-  pub settle-inside : (k : ℕ) (fr : St → ℕ → Ans) → Freshens k fr → (X : Set) (s : St) (n : ℕ) → Inside g X s → Open g st X s → n < g .size → readable (g .kind n) ≡ true → Above X n → rank n < k
-      → Settled X s n (settleW fr s n)
-  unfolding settleW
-  settle-inside k fr frs X s n i o h r ab lt =
-      let a = fr s n in
-      let f = frs X s n i o h r ab lt in
-      branch (Settled X s n) (a .yes)
-      (λ e. record {
-        inside = shallow-inside g X (a .st) n (f .inside);
-        frame = shallow-frame g X (Low g (suc (rank n))) n (suc n) s (a .st) n i (f .inside) (f .frame) (omega arith) (omega arith) r (f .changed e);
-        clean = shallow-clean g X (a .st) n (f .inside) n (f .clean);
-      })
-      (λ e. record { inside = f .inside; frame = frame-wider g (Low g (suc (rank n))) (Low g (suc (rank n))) n (suc n) s (a .st) (λ m z. z) (omega arith) (f .frame); clean = f .clean })
+  module _ (k : ℕ) (fr : St → ℕ → Ans) (frs : Freshens k fr) (X : Set) (s : St) (n : ℕ) (i : Inside g X s) (o : Open g st X s) (h : n < g .size) (r : readable (g .kind n) ≡ true) (ab : Above X n) (lt : rank n < k) where
+    spread-inside : Settled X s n (spread (fr s n) n)
+    spread-inside =
+        let a = fr s n in
+        let f = frs X s n i o h r ab lt in
+        branch (Settled X s n) (a .yes)
+        (λ e. record {
+          inside = shallow-inside g X (a .st) n (f .inside);
+          frame = shallow-frame g X (Low g (suc (rank n))) n (suc n) s (a .st) n i (f .inside) (f .frame) (omega arith) (omega arith) r (f .changed e);
+          clean = shallow-clean g X (a .st) n (f .inside) n (f .clean);
+        })
+        (λ e. record { inside = f .inside; frame = frame-wider g (Low g (suc (rank n))) (Low g (suc (rank n))) n (suc n) s (a .st) (λ m z. z) (omega arith) (f .frame); clean = f .clean })
+
+    -- its value is there
+    pub settle-spreads : settleW fr s n ≡ spread (fr s n) n
+    unfolding settleW
+    settle-spreads =
+        let w = spread-inside in
+        provided-same _ (spread (fr s n) n) (ap₂ hasValue (ap (λ (z : Given). z .kind n) (w .inside .same)) (w .clean) ∙ clean-has (g .kind n) r)
+
+    pub settle-inside : Settled X s n (settleW fr s n)
+    settle-inside = subst (Settled X s n) (sym settle-spreads) spread-inside
 
   -- ---- an evaluation of u under way: i reads are made
   abbrev pub Near : ℕ → Set

@@ -10,14 +10,14 @@ use Rattle.primitive.specs.declared.flags.Named.{Named}
 use Rattle.primitive.specs.declared.values.Value.{Value}
 use Rattle.primitive.specs.Values.{isZero}
 use Rattle.formula.specs.Trees.{Tree, constant, read, two, choose}
-use Rattle.meaning.specs.State.{St, Kind, signal, computed, effect, scope, Row, bare, f0, f1, f2, f5, f6, f17, withPending, raised, deps}
+use Rattle.meaning.specs.State.{St, Kind, signal, computed, effect, scope, Row, bare, hasValue, f0, f1, f2, f5, f6, f17, withPending, raised, deps}
 use Rattle.meaning.specs.Setters.{withCycle, withLog, withQueue, setFl, setSto, setGone}
-use Rattle.meaning.specs.Links.{stop, isNil, headOf, several, each, link, cut, rewind, purgeW, lastLink, disposeW, unwatchedW, unlinkN, budget, purge, dispose}
-use Rattle.meaning.specs.Marks.{shallow}
-use Rattle.meaning.specs.Reads.{Ans, Out, ans, evalBy, settleW, readW, firstW, updComputed, updSignal, updW, sameSlots, steady, checkOn, checkW, pendingW, freshW, fresh, settle, check, evaluate}
+use Rattle.meaning.specs.Links.{stop, provided, isNil, headOf, several, each, link, cut, rewind, purgeW, lastLink, disposeW, unwatchedW, unlinkN, budget, purge, dispose}
+use Rattle.meaning.specs.Marks.{isEffect, shallow}
+use Rattle.meaning.specs.Reads.{Ans, Out, ans, evalBy, spread, settleW, readW, firstW, updComputed, updSignal, updW, sameSlots, steady, checkOn, checkW, pendingW, freshW, fresh, settle, check, evaluate}
 use Rattle.meaning.specs.Engine.{logged, rerun, run, flushOn}
 use Rattle.meaning.specs.Evaluations.{inFormula, inCheckOn, inCheck, inUpdate, inPending, withFirst, countFirst, countFreshW, countFresh, countRead, countEvaluation, countRerun, countRun, countFlushOn}
-use Rattle.meaning.proofs.Laws.{branch, branches}
+use Rattle.meaning.proofs.Laws.{branch, branches, provided-by}
 
 -- ---- the first ring
 pub record Drops (R : St → St → Type 0) : Type 0 where
@@ -109,6 +109,9 @@ module _ (all : Bool) (R : ℕ → St → St → Type 0) (r : Counts all R) wher
   after : (m : ℕ) (s t x : St) → R m s t → R 0 t x → R m s x
   after m s t x p q = equal (m + 0) m s x (omega arith) (r .then m 0 s t x p q)
 
+  tested : (m : ℕ) (b : Bool) (s t : St) → R m s t → R m s (provided b t)
+  tested m b s t p = provided-by (R m s) b p (after m s t (stop t) p (r .drops .stops t))
+
   eval-count : (rd : St → ℕ → St) (k : St → ℕ → ℕ) → ((s : St) (n : ℕ) → R (k s n) s (rd s n)) → (f : Tree) (s : St) → R (inFormula rd k f s) s (evalBy rd f s .st)
   unfolding evalBy inFormula
   eval-count rd k h (constant c) s = r .drops .same s
@@ -124,7 +127,8 @@ module _ (all : Bool) (R : ℕ → St → St → Type 0) (r : Counts all R) wher
     unfolding settleW
     settleW-count s n =
         let a = fr s n in
-        branch (R (c s n) s) (a .yes) (λ e. after (c s n) s (a .st) _ (frs s n) (r .shallows (a .st) n)) (λ e. frs s n)
+        let t = spread a n in
+        tested (c s n) (hasValue (t .kind n) (t .fl n)) s t (branch (R (c s n) s) (a .yes) (λ e. after (c s n) s (a .st) _ (frs s n) (r .shallows (a .st) n)) (λ e. frs s n))
 
     read-count : (u : ℕ) (s : St) (n : ℕ) → R (c s n) s (readW fr u s n)
     read-count u s n = let t = settleW fr s n in after (c s n) s t _ (settleW-count s n) (r .links t n u (t .cycle))
@@ -151,7 +155,7 @@ module _ (all : Bool) (R : ℕ → St → St → Type 0) (r : Counts all R) wher
         after (suc m) s y _ (after (suc m) s (o .st) y (equal (1 + m) (suc m) s (o .st) (omega arith) (r .then 1 m s t (o .st) (r .begins s n f5) (evalW-count n (s .form n) t))) (r .stores (o .st) n (o .val) f1))
         (purge-ring (R 0) (r .drops) y n)
 
-    upd-count : (k : Kind) (s : St) (n : ℕ) → R (inUpdate fr c k s n) s (updW fr k s n .st)
+    pub upd-count : (k : Kind) (s : St) (n : ℕ) → R (inUpdate fr c k s n) s (updW fr k s n .st)
     unfolding updW updSignal inUpdate
     upd-count signal s n = r .moves s n
     upd-count computed s n = computed-count s n
@@ -160,9 +164,9 @@ module _ (all : Bool) (R : ℕ → St → St → Type 0) (r : Counts all R) wher
 
     steady-count : (m : ℕ) (was : List ℕ) (s t : St) (d : ℕ) → R m s t → R m s (steady was t d)
     unfolding steady
-    steady-count m was s t d p = branch (R m s) (sameSlots was (t .subs d) && not (isNil was)) (λ e. p) (λ e. after m s t _ p (r .drops .stops t))
+    steady-count m was s t d p = tested m (sameSlots was (t .subs d) && not (isNil was)) s t p
 
-    checkOn-count : (u : ℕ) (ls : List ℕ) (s : St) → R (inCheckOn fr c u s ls) s (checkOn fr u s ls .st)
+    pub checkOn-count : (u : ℕ) (ls : List ℕ) (s : St) → R (inCheckOn fr c u s ls) s (checkOn fr u s ls .st)
     unfolding checkOn inCheckOn
     checkOn-count u [] s = r .drops .same s
     checkOn-count u (l ∷ ls) s =
@@ -177,7 +181,7 @@ module _ (all : Bool) (R : ℕ → St → St → Type 0) (r : Counts all R) wher
         (λ g. r .then (c s d) (inCheckOn fr c u t ls) s t _ p (checkOn-count u ls t)))
         (λ f. checkOn-count u ls s))
 
-    checkW-count : (s : St) (u : ℕ) → R (inCheck fr c s u) s (checkW fr s u .st)
+    pub checkW-count : (s : St) (u : ℕ) → R (inCheck fr c s u) s (checkW fr s u .st)
     unfolding checkW inCheck inCheckOn
     checkW-count s u = go (deps s u) refl
       where
@@ -229,8 +233,9 @@ module _ (all : Bool) (R : ℕ → St → St → Type 0) (r : Counts all R) wher
         let m = countEvaluation all t e in
         let l = logged o e in
         let y = setFl l e f2 in
-        after (suc m) s y _ (after (suc m) s l y (after (suc m) s (o .st) l (equal (1 + m) (suc m) s (o .st) (omega arith) (r .then 1 m s t (o .st) (r .begins s e f6) (evaluate-count t e))) (logged-count o e)) (r .flags l e f2))
-        (purge-ring (R 0) (r .drops) y e)
+        tested (suc m) (isEffect (s .kind e)) s (purge y e)
+        (after (suc m) s y _ (after (suc m) s l y (after (suc m) s (o .st) l (equal (1 + m) (suc m) s (o .st) (omega arith) (r .then 1 m s t (o .st) (r .begins s e f6) (evaluate-count t e))) (logged-count o e)) (r .flags l e f2))
+        (purge-ring (R 0) (r .drops) y e))
 
     pub run-count : (s : St) (e : ℕ) → R (countRun all s e) s (run s e)
     unfolding run countRun
@@ -269,6 +274,18 @@ module _ (R : St → St → Type 0) (r : Renews R) where
 
   pub fresh-ring : (k : ℕ) (s : St) (n : ℕ) → R s (fresh k s n .st)
   fresh-ring = fresh-count true (λ (m : ℕ). R) uncounted
+
+  pub eval-ring : (k u : ℕ) (f : Tree) (s : St) → R s (evalBy (readW (fresh k) u) f s .st)
+  eval-ring k = evalW-count true (λ (m : ℕ). R) uncounted (fresh k) (countFresh true k) (fresh-ring k)
+
+  pub upd-ring : (k : ℕ) (c : Kind) (s : St) (n : ℕ) → R s (updW (fresh k) c s n .st)
+  upd-ring k = upd-count true (λ (m : ℕ). R) uncounted (fresh k) (countFresh true k) (fresh-ring k)
+
+  pub checkOn-ring : (k u : ℕ) (ls : List ℕ) (s : St) → R s (checkOn (fresh k) u s ls .st)
+  checkOn-ring k = checkOn-count true (λ (m : ℕ). R) uncounted (fresh k) (countFresh true k) (fresh-ring k)
+
+  pub checkW-ring : (k : ℕ) (s : St) (u : ℕ) → R s (checkW (fresh k) s u .st)
+  checkW-ring k = checkW-count true (λ (m : ℕ). R) uncounted (fresh k) (countFresh true k) (fresh-ring k)
 
   pub settle-ring : (s : St) (n : ℕ) → R s (settle s n)
   settle-ring = settle-count true (λ (m : ℕ). R) uncounted
@@ -310,6 +327,9 @@ pub record Runs (R : St → St → Type 0) : Type 0 where
 module _ (R : St → St → Type 0) (r : Runs R) where
   pub logged-ring : (o : Out) (e : ℕ) → R (o .st) (logged o e)
   logged-ring = logged-count true (λ (m : ℕ). R) (uncounted R (r .renews)) (r .logs)
+
+  pub rerun-ring : (s : St) (e : ℕ) → R s (rerun s e)
+  rerun-ring = rerun-count true (λ (m : ℕ). R) (uncounted R (r .renews)) (r .logs)
 
   pub run-ring : (s : St) (e : ℕ) → R s (run s e)
   run-ring = run-count true (λ (m : ℕ). R) (uncounted R (r .renews)) (r .logs)

@@ -24,6 +24,7 @@ use Rattle.meaning.proofs.Laws.{clash, false≢true, either, none-some,
 use Rattle.meaning.proofs.Members.{append-is-nil, nil-none, reads-few, reads-agree}
 use Rattle.meaning.proofs.Rings.{purge-ring, evaluate-ring, check-ring}
 use Rattle.meaning.proofs.Still.{Given, Fixed, Still, drops-still, renews-still}
+use Rattle.meaning.proofs.Steps.{rerun-is}
 use Rattle.meaning.proofs.Flush.{run-queues-nothing, rerun-row}
 use Rattle.meaning.proofs.Inside.{Set, nobody, also, Static, Goes, Rests, Inside, let-out, Under, under-same, never-back, owner-owns}
 use Rattle.meaning.proofs.Dropping.{flags-inside, rewind-inside, purge-inside, purge-reads}
@@ -311,10 +312,11 @@ module _ (g : Given) (st : Static g) where
       rerun-ends = subst (λ (t : Tree). Inside g (Run e) (setFl (logged (evalBy (readW (fresh (s .size)) e) t (begun s)) e) e f2)) (sym form-is) (i-ended s (begun s) i (l .owns) i-begun f-begun (up-same (s .done) e []) few-begun)
 
       rerun-inside : (In e (s .queue) → ⊥) → Goes-on g nobody s (rerun s e) × Others s (rerun s e) × Disposed (rerun s e) × Spared s (rerun s e)
-      unfolding rerun
       rerun-inside nq =
-          subst (λ (t : Tree). let x = purge (setFl (logged (evalBy (readW (fresh (s .size)) e) t (begun s)) e) e f2) e in Goes-on g nobody s x × Others s x × Disposed x × Spared s x) (sym form-is)
-          (later-run s (begun s) i (l .owns) i-begun f-begun (up-same (s .done) e []) few-begun nq)
+          let All : St → Type 0 = λ x. Goes-on g nobody s x × Others s x × Disposed x × Spared s x in
+          subst All (sym (rerun-is s e (ap (λ (z : Given). z .kind e) (i .same) ∙ ke)))
+          (subst (λ (t : Tree). All (purge (setFl (logged (evalBy (readW (fresh (s .size)) e) t (begun s)) e) e f2) e)) (sym form-is)
+          (later-run s (begun s) i (l .owns) i-begun f-begun (up-same (s .done) e []) few-begun nq))
 
     -- ---- e is taken off the queue
     module _ (s : St) (q : List ℕ) (i : Inside g nobody s) (is : s .queue ≡ e ∷ q) where

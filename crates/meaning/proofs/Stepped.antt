@@ -10,7 +10,7 @@ use Rattle.primitive.specs.declared.flags.Named.{Named}
 use Rattle.primitive.specs.declared.values.Value.{Value}
 use Rattle.primitive.specs.Values.{value, same}
 use Rattle.formula.specs.Trees.{Tree, constant}
-use Rattle.meaning.specs.State.{St, Kind, signal, computed, effect, scope, f0, f1, f2, f6, f17, nothing}
+use Rattle.meaning.specs.State.{St, Kind, signal, computed, effect, scope, aSignal, f0, f1, f2, f6, f17, nothing}
 use Rattle.meaning.specs.Setters.{withLog, withDepth, setFl, setPend}
 use Rattle.meaning.specs.Links.{isNil}
 use Rattle.meaning.specs.Marks.{marksOf, turns, propagate}
@@ -22,7 +22,7 @@ use Rattle.meaning.specs.Refusals.{sightOf, asksOf, table, refusal}
 use Rattle.meaning.specs.WellFormed.{WellFormed}
 use Rattle.meaning.specs.Moments.{held, Step, unlinks, links, marks-gone, others, Steps, here, later, begun, reserveFrom}
 use Rattle.meaning.specs.Commands.{perform, performAny, answer, command}
-use Rattle.meaning.proofs.Laws.{branch, or-first}
+use Rattle.meaning.proofs.Laws.{branch, provided-by, or-first}
 use Rattle.meaning.proofs.Rings.{Drops, Renews, Runs, dispose-ring, settle-ring, evaluate-ring, flush-ring, logged-ring}
 use Rattle.meaning.proofs.Stuck.{prop-sticks}
 use Rattle.meaning.proofs.Refused.{NoneHolds}
@@ -63,7 +63,7 @@ renews = record {
   shallows = λ s n. one (others _ refl (or-first (s .stuck) _));
 }
 
-runs : Runs Steps
+pub runs : Runs Steps
 runs = record { renews = renews; logs = λ s l. plain s _ refl refl }
 
 flush-steps : (q : List ℕ) (s : St) → Steps s (flushOn s q)
@@ -80,8 +80,9 @@ store-steps s n v =
     let p = propagate t n in
     let written : Steps s t = plain s t refl refl in
     let marked : Steps t p = one (others p refl (prop-sticks t (turns t) (marksOf t) (t .subs n) [])) in
-    branch (Steps s) (same (s .pend n) v) (λ a. here)
-    (λ a. branch (Steps s) (isNil (s .subs n)) (λ b. written) (λ b. on written (on marked (flushAt-steps p (p .depth)))))
+    let w = branch (Steps s) (same (s .pend n) v) (λ a. here)
+    (λ a. branch (Steps s) (isNil (s .subs n)) (λ b. written) (λ b. on written (on marked (flushAt-steps p (p .depth))))) in
+    provided-by (Steps s) (aSignal (s .kind n)) w (later w (others _ refl (λ e. refl)))
 
 owned-steps : (s : St) (n : ℕ) (o : Option ℕ) → Steps s (owned s n o)
 owned-steps s n none = here

@@ -5,12 +5,13 @@ use mathlib.Core.List.{List, [], _∷_}
 use mathlib.Core.Option.{Option, none, some}
 use Prim.Native.Nat.{ℕ, suc}
 use Rattle.primitive.specs.declared.flags.Named.{Named}
-use Rattle.meaning.specs.State.{St, f0, f2, f17}
-use Rattle.meaning.specs.Setters.{setFl, setGone}
-use Rattle.meaning.specs.Links.{isNil, headOf, each, cut, rewind, purgeW, lastLink, disposeW, unwatchedW, unlinkN}
-use Rattle.meaning.specs.Reads.{check}
-use Rattle.meaning.specs.Engine.{rerun, run}
-use Rattle.meaning.proofs.Laws.{either, clash, branch, up-same}
+use Rattle.meaning.specs.State.{St, effect, f0, f2, f6, f17, raised}
+use Rattle.meaning.specs.Setters.{withCycle, setFl, setGone}
+use Rattle.meaning.specs.Links.{isNil, headOf, each, cut, rewind, purgeW, lastLink, disposeW, unwatchedW, unlinkN, purge}
+use Rattle.meaning.specs.Marks.{isEffect}
+use Rattle.meaning.specs.Reads.{check, evaluate}
+use Rattle.meaning.specs.Engine.{logged, rerun, run}
+use Rattle.meaning.proofs.Laws.{either, clash, branch, provided-same, up-same}
 use Rattle.meaning.proofs.Members.{isNil-true, isNil-false}
 
 -- ---- a run
@@ -19,6 +20,11 @@ pub run-by : (P : St → Type 0) (s : St) (e : ℕ) → (s .fl e .dirty ≡ true
     → (s .fl e .pending ≡ true → check s e .yes ≡ false → P (setFl (check s e .st) e f2)) → (s .fl e .pending ≡ false → P (setFl s e f2)) → P (run s e)
 unfolding run
 run-by P s e a b c d = branch P (s .fl e .dirty) a (λ x. branch P (s .fl e .pending) (λ y. branch P (check s e .yes) (b y) (c y)) d)
+
+-- a rerun of an effect
+pub rerun-is : (s : St) (e : ℕ) → s .kind e ≡ effect → rerun s e ≡ (let o = evaluate (setFl (rewind (withCycle s (raised (s .cycle))) e) e f6) e in purge (setFl (logged o e) e f2) e)
+unfolding rerun
+rerun-is s e k = provided-same _ _ (ap isEffect k)
 
 -- an effect with no flag, as a gone one, does not run: its flags become 2
 pub no-flag-no-run : (s : St) (e : ℕ) → s .fl e ≡ f0 → run s e ≡ setFl s e f2

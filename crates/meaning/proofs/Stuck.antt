@@ -1,21 +1,28 @@
 -- Stuck: where an operation cannot go on it says so; and what is stuck stays stuck. So "not stuck after a command" says that nothing in it was. Assumes nothing.
-use mathlib.Core.Path.{_≡_, refl, ap}
+use mathlib.Core.Path.{_≡_, refl, ap, _∙_}
 use mathlib.Core.Bool.{Bool, true, false, not, _&&_}
 use mathlib.Core.List.{List, [], _∷_, _++_, reverse}
 use mathlib.Core.Option.{none}
 use Prim.Native.Nat.{ℕ, zero, suc, _+_}
 use lib.Dec.{leb, ltb}
 use lib.ListN.{length}
-use Rattle.meaning.specs.State.{St, effect, scope, unclean, recursing, deps}
-use Rattle.meaning.specs.Links.{isNil, several, spent, insert, unlinkN}
-use Rattle.meaning.specs.Marks.{Marks, halt, chain, effects, notify, mark, stackFull, prop, wakes, shallow}
-use Rattle.meaning.specs.Reads.{Ans, updW, sameSlots, steady, checkW, fresh}
-use Rattle.meaning.specs.Engine.{endAt}
+use Rattle.primitive.specs.declared.flags.Named.{Named}
+use Rattle.primitive.specs.declared.values.Value.{Value}
+use Rattle.meaning.specs.State.{St, Kind, signal, computed, effect, scope, readable, aSignal, bare, hasValue, unclean, recursing, deps}
+use Rattle.meaning.specs.Links.{provided, isNil, several, spent, insert, unlinkN}
+use Rattle.meaning.specs.Marks.{Marks, halt, chain, isEffect, effects, notify, mark, stackFull, prop, wakes, shallow}
+use Rattle.meaning.specs.Reads.{Ans, spread, settleW, updW, sameSlots, steady, checkW, fresh}
+use Rattle.meaning.specs.Engine.{rerun, store, endAt}
 use Rattle.meaning.specs.Words.{batchEnd}
 use Rattle.meaning.specs.Commands.{perform, performAny}
 use Rattle.meaning.proofs.Laws.{clash, branch, or-first, or-last}
 
 -- ---- where
+-- the test of an operation fails
+fails : (b : Bool) (s : St) → b ≡ false → provided b s .stuck ≡ true
+unfolding provided
+fails b s h = branch (λ (x : St). x .stuck ≡ true) b (λ e. clash e h) (λ e. refl)
+
 -- no slot is free
 pub no-slot : (s : St) (d u v : ℕ) → insert s d u v [] .stuck ≡ true
 unfolding insert
@@ -55,7 +62,7 @@ no-effect s m e h = or-last (m .stuck) _ (or-last (ltb (s .room .nodes) (length 
 -- the subscriber list that the dirty check goes back up by has changed, or is empty
 pub not-steady : (was : List ℕ) (t : St) (d : ℕ) → sameSlots was (t .subs d) && not (isNil was) ≡ false → steady was t d .stuck ≡ true
 unfolding steady
-not-steady was t d h = branch (λ (x : St). x .stuck ≡ true) (sameSlots was (t .subs d) && not (isNil was)) (λ e. clash e h) (λ e. refl)
+not-steady was t d h = fails _ t h
 
 -- a panic of the Rust: an update of what is no signal and no computed; a check with no dependencies
 pub no-update : (fr : St → ℕ → Ans) (s : St) (n : ℕ) → (updW fr effect s n .st .stuck ≡ true) × (updW fr scope s n .st .stuck ≡ true)
@@ -65,6 +72,22 @@ no-update fr s n = (refl, refl)
 pub no-dependencies : (fr : St → ℕ → Ans) (s : St) (u : ℕ) → isNil (deps s u) ≡ true → checkW fr s u .st .stuck ≡ true
 unfolding checkW
 no-dependencies fr s u h = branch (λ (x : Ans). x .st .stuck ≡ true) (isNil (deps s u)) (λ e. refl) (λ e. clash h e)
+
+-- and: the value of a computed that was never evaluated is taken; a node of another kind is read, written or run
+pub no-value : (fr : St → ℕ → Ans) (s : St) (n : ℕ) → let t = spread (fr s n) n in t .kind n ≡ computed → bare (t .fl n) ≡ true → settleW fr s n .stuck ≡ true
+unfolding settleW
+no-value fr s n k b = let t = spread (fr s n) n in fails _ t (ap (λ (z : Kind). hasValue z (t .fl n)) k ∙ ap not b)
+
+pub wrong-kind : (fr : St → ℕ → Ans) (s : St) (n : ℕ) (v : Value)
+    → (readable (spread (fr s n) n .kind n) ≡ false → settleW fr s n .stuck ≡ true) × (aSignal (s .kind n) ≡ false → store s n v .stuck ≡ true) × (isEffect (s .kind n) ≡ false → rerun s n .stuck ≡ true)
+unfolding settleW store rerun
+wrong-kind fr s n v = (λ h. let t = spread (fr s n) n in fails _ t (unread (t .kind n) (t .fl n) h), λ h. fails _ _ h, λ h. fails _ _ h)
+  where
+    unread : (k : Kind) (f : Named) → readable k ≡ false → hasValue k f ≡ false
+    unread signal f q = q
+    unread computed f q = clash refl q
+    unread effect f q = refl
+    unread scope f q = refl
 
 -- an end at depth 0 (refused: `end-refused`), or words that are no command (refused by 2)
 pub no-end : (s : St) → s .depth ≡ 0 → perform s batchEnd .st .stuck ≡ true

@@ -17,7 +17,7 @@ use Rattle.meaning.specs.Links.{isNil, several, rewind, purge}
 use Rattle.meaning.specs.Marks.{shallow}
 use Rattle.meaning.specs.Reads.{Ans, ans, Out, evalBy, readW, firstW, updComputed, updSignal, updW, sameSlots, steady, checkOn, checkW, pendingW, freshW, fresh}
 use Rattle.meaning.specs.WellFormed.{In, readLinks, ComputedFlags, never, clean, stale, maybe, dirty}
-use Rattle.meaning.proofs.Laws.{clash, false≢true, either, branch, up-same, up-other, up-by, in-left, in-right, in-cases}
+use Rattle.meaning.proofs.Laws.{clash, false≢true, either, branch, provided-same, up-same, up-other, up-by, in-left, in-right, in-cases}
 use Rattle.meaning.proofs.Members.{nil-none, isNil-true, append-is-nil, reads-few}
 use Rattle.meaning.proofs.Still.{Given}
 use Rattle.meaning.proofs.Inside.{Set, also, Static, Goes, Rests, Inside, widen, let-out, read-moves, moves-read, Under}
@@ -36,8 +36,7 @@ same-slots (x ∷ xs) = rw (eq-eqb x x refl, sameSlots, same-slots xs)
 pub steady-same : (was : List ℕ) (t : St) (d : ℕ) → t .subs d ≡ was → (was ≡ [] → ⊥) → steady was t d ≡ t
 unfolding steady
 steady-same was t d e h =
-    branch (λ (x : St). x ≡ t) (sameSlots was (t .subs d) && not (isNil was)) (λ q. refl)
-    (λ q. clash (both (subst (λ (z : List ℕ). sameSlots was z ≡ true) (sym e) (same-slots was)) (full was h)) q)
+    provided-same _ t (both (subst (λ (z : List ℕ). sameSlots was z ≡ true) (sym e) (same-slots was)) (full was h))
   where
     both : {a b : Bool} → a ≡ true → b ≡ true → (a && b) ≡ true
     both p q = ap₂ (λ (x y : Bool). x && y) p q

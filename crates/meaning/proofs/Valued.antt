@@ -10,15 +10,15 @@ use lib.IntN.{ℤ}
 use Rattle.primitive.specs.declared.flags.Named.{Named}
 use Rattle.primitive.specs.Values.{same}
 use Rattle.primitive.proofs.ValueLaws.{same-yes}
-use Rattle.meaning.specs.State.{St, Kind, signal, readable, f1, f17, bare, up}
+use Rattle.meaning.specs.State.{St, Kind, signal, readable, f1, f17, bare, hasValue, up}
 use Rattle.meaning.specs.Setters.{setFl, setSto, withLog}
-use Rattle.meaning.specs.Marks.{shallow}
-use Rattle.meaning.specs.Reads.{Ans, updSignal, updW, freshW, fresh, settleW, settle}
+use Rattle.meaning.specs.Links.{provided}
+use Rattle.meaning.specs.Reads.{Ans, updSignal, updW, freshW, fresh, spread, settleW, settle}
 use Rattle.meaning.specs.Words.{Command, readOf, commandOf, nodeOf}
 use Rattle.meaning.specs.Refusals.{sightOf, asksOf, wrongNode, table}
 use Rattle.meaning.specs.WellFormed.{In, WellFormed}
 use Rattle.meaning.specs.Commands.{perform, Answer, accepted, command}
-use Rattle.meaning.proofs.Laws.{clash, either, branch, up-by}
+use Rattle.meaning.proofs.Laws.{clash, either, branch, provided-same, up-by}
 use Rattle.meaning.proofs.Still.{given}
 use Rattle.meaning.proofs.Refused.{NoneHolds}
 use Rattle.meaning.proofs.Performed.{performed}
@@ -38,16 +38,20 @@ module _ (s : St) (m : ℕ) where
       branch (λ (r : Ans). r ≡ updSignal s m) (bare (s .fl m)) (λ q. clash q (ap bare f))
       (λ q. branch (λ (r : Ans). r ≡ updSignal s m) (s .fl m .dirty) (λ d. ap (λ (z : Kind). updW fr z s m) k) (λ d. clash (ap (λ (z : Named). z .dirty) f) d))
 
-  stale-settles : (b : ℕ) → m < b → s .kind m ≡ signal → s .fl m ≡ f17 → settleW (fresh b) s m ≡ elim (not (same (s .sto m) (s .pend m))) [ true ↦ shallow moved m | false ↦ moved ]
+  stale-settles : (b : ℕ) → m < b → s .kind m ≡ signal → s .fl m ≡ f17 → settleW (fresh b) s m ≡ spread (updSignal s m) m
   unfolding settleW fresh updSignal
   stale-settles zero h k f = absurd (omega arith)
-  stale-settles (suc b) h k f = ap (λ (r : Ans). elim (r .yes) [ true ↦ shallow (r .st) m | false ↦ r .st ]) (stale-updates (fresh b) k f)
+  stale-settles (suc b) h k f =
+      let t = spread (updSignal s m) m in
+      let kt : t .kind m ≡ signal = branch (λ (x : St). x .kind m ≡ signal) (updSignal s m .yes) (λ q. k) (λ q. k) in
+      ap (λ (r : Ans). provided (hasValue (spread r m .kind m) (spread r m .fl m)) (spread r m)) (stale-updates (fresh b) k f) ∙ provided-same _ t (ap (λ (z : Kind). hasValue z (t .fl m)) kt)
 
   -- pending moves to current; if that changed it, pending subscribers are dirty
   abbrev pub Takes : St → Type 0
   Takes t = (t .sto ≡ up (s .sto) m (s .pend m)) × ((s .sto m ≡ s .pend m → ⊥) → (l : ℕ) → In l (s .subs m) → s .fl (s .sub l) .pending ≡ true → t .fl (s .sub l) .dirty ≡ true)
 
   stale-takes : m < s .size → s .kind m ≡ signal → s .fl m ≡ f17 → Takes (settle s m)
+  unfolding updSignal
   stale-takes h k f = subst Takes (sym (stale-settles (s .size) h k f)) (branch Takes (not (same (s .sto m) (s .pend m))) (λ q. (refl, λ ne l i p. soil-here (s .sub) l (s .subs m) (up (s .fl) m f1) i (kept l p))) (λ q. (refl, λ ne. absurd (ne (same-yes (s .sto m) (s .pend m) (no-not (same (s .sto m) (s .pend m)) q))))))
     where
       kept : (l : ℕ) → s .fl (s .sub l) .pending ≡ true → up (s .fl) m f1 (s .sub l) .pending ≡ true

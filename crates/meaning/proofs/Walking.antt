@@ -12,14 +12,14 @@ use Rattle.primitive.specs.declared.flags.Named.{Named}
 use Rattle.primitive.specs.declared.values.Value.{Value}
 use Rattle.primitive.specs.Values.{same}
 use Rattle.lists.proofs.SumLaws.{sum-add}
-use Rattle.meaning.specs.State.{St, signal, readable, unclean, recursing, f17, up}
+use Rattle.meaning.specs.State.{St, signal, readable, aSignal, unclean, recursing, f17, up}
 use Rattle.meaning.specs.Setters.{setFl, setPend}
 use Rattle.meaning.specs.Links.{isNil, several}
 use Rattle.meaning.specs.Marks.{Marks, marksOf, withMarks, halt, notify, mark, stackFull, prop, turns, propagate}
 use Rattle.meaning.specs.Engine.{flushAt, store}
 use Rattle.meaning.specs.Reserve.{total}
 use Rattle.meaning.specs.WellFormed.{In}
-use Rattle.meaning.proofs.Laws.{clash, false≢true, either, branch, or-false, or-last, up-same, in-cases}
+use Rattle.meaning.proofs.Laws.{clash, false≢true, either, branch, provided-so, or-false, or-last, up-same, in-cases}
 use Rattle.meaning.proofs.Members.{most-below, gather, gather-length, gather-in, gather-once, total-spare}
 use Rattle.meaning.proofs.Still.{Given}
 use Rattle.meaning.proofs.Reached.{mark-dirty, mark-here, mark-there}
@@ -212,5 +212,6 @@ module _ (g : Given) (st : Static g) (s : St) (n : ℕ) (v : Value) (i : Inside 
   pub store-inside : Goes-on g nobody s (store s n v)
   unfolding store
   store-inside =
-      branch (Goes-on g nobody s) (same (s .pend n) v) (λ e. record { inside = i; stuck = refl })
-      (λ e. branch (Goes-on g nobody s) (isNil (s .subs n)) (λ f. record { inside = i-written; stuck = refl }) (λ f. flushed (s .depth)))
+      provided-so (Goes-on g nobody s) (aSignal (s .kind n)) (ap (λ (z : Given). aSignal (z .kind n)) (i .same) ∙ ap aSignal kn)
+      (branch (Goes-on g nobody s) (same (s .pend n) v) (λ e. record { inside = i; stuck = refl })
+      (λ e. branch (Goes-on g nobody s) (isNil (s .subs n)) (λ f. record { inside = i-written; stuck = refl }) (λ f. flushed (s .depth))))

@@ -8,35 +8,39 @@ use lib.ListN.{length}
 use Rattle.primitive.specs.declared.values.Value.{Value}
 use Rattle.primitive.specs.Values.{same}
 use Rattle.primitive.proofs.ValueLaws.{same-yes, yes-same}
-use Rattle.meaning.specs.State.{St, f17, up}
+use Rattle.meaning.specs.State.{St, signal, aSignal, f17, up}
 use Rattle.meaning.specs.Setters.{setFl, setPend, withDepth, withLog}
-use Rattle.meaning.specs.Links.{isNil}
+use Rattle.meaning.specs.Links.{provided, isNil}
 use Rattle.meaning.specs.Marks.{Marks, marksOf, withMarks, prop, turns, propagate}
 use Rattle.meaning.specs.Engine.{flushOn, flushAt, store, endAt}
 use Rattle.meaning.specs.Words.{Command, makeSignal, makeComputed, makeEffect, makeScope, setTo, addTo, readOf, disposeOf, batchStart, batchEnd}
 use Rattle.meaning.specs.Commands.{perform}
 use Rattle.meaning.specs.Outcome.{Writes, sets, adds, valueOf}
 use Rattle.meaning.specs.Moments.{flushing}
-use Rattle.meaning.proofs.Laws.{clash, branch}
+use Rattle.meaning.proofs.Laws.{clash, branch, provided-so}
 use Rattle.meaning.proofs.Members.{isNil-true}
 use Rattle.meaning.proofs.Flush.{flush-pend}
 use Rattle.meaning.proofs.Moments.{flushing-whole}
 
-module _ (s : St) (n : ℕ) (x : Value) where
+module _ (s : St) (n : ℕ) (x : Value) (kn : s .kind n ≡ signal) where
   -- signal n, written
   abbrev pub written : St
   written = setFl (setPend s n x) n f17
 
+  -- it is one
+  so : (P : St → Type 0) {t : St} → P t → P (provided (aSignal (s .kind n)) t)
+  so P p = provided-so P (aSignal (s .kind n)) (ap aSignal kn) p
+
   -- the value that is pending already
   pub stores-nothing : s .pend n ≡ x → store s n x ≡ s
   unfolding store
-  stores-nothing e = branch (λ (t : St). t ≡ s) (same (s .pend n) x) (λ a. refl) (λ a. clash (yes-same (s .pend n) x e) a)
+  stores-nothing e = so (λ (t : St). t ≡ s) (branch (λ (t : St). t ≡ s) (same (s .pend n) x) (λ a. refl) (λ a. clash (yes-same (s .pend n) x e) a))
 
   pub stores-pending : (s .pend n ≡ x → ⊥) → store s n x .pend ≡ up (s .pend) n x
   unfolding store
   stores-pending e =
-      branch (λ (t : St). t .pend ≡ up (s .pend) n x) (same (s .pend n) x) (λ a. absurd (e (same-yes (s .pend n) x a)))
-      (λ a. branch (λ (t : St). t .pend ≡ up (s .pend) n x) (isNil (s .subs n)) (λ b. refl) (λ b. at (s .depth)))
+      let P : St → Type 0 = λ t. t .pend ≡ up (s .pend) n x in
+      so P (branch P (same (s .pend n) x) (λ a. absurd (e (same-yes (s .pend n) x a))) (λ a. branch P (isNil (s .subs n)) (λ b. refl) (λ b. at (s .depth))))
     where
       at : (d : ℕ) → flushAt (propagate (setFl (setPend s n x) n f17) n) d .pend ≡ up (s .pend) n x
       at zero = let p = propagate (setFl (setPend s n x) n f17) n in flush-pend (p .queue) p
@@ -53,9 +57,10 @@ module _ (s : St) (n : ℕ) (x : Value) where
   stores-flush e d q =
       let p = propagate written n in
       let F : St → St = λ y. flushing (length (y .queue)) y (y .queue) in
-      branch (λ (t : St). t ≡ F p) (same (s .pend n) x) (λ a. absurd (e (same-yes (s .pend n) x a)))
-      (λ a. branch (λ (t : St). t ≡ F p) (isNil (s .subs n)) (λ b. still q ∙ sym (ap F (none-told (s .subs n) (isNil-true (s .subs n) b))))
-      (λ b. ap (flushAt p) d ∙ sym (flushing-whole (p .queue) p)))
+      let P : St → Type 0 = λ t. t ≡ F p in
+      so P (branch P (same (s .pend n) x) (λ a. absurd (e (same-yes (s .pend n) x a)))
+      (λ a. branch P (isNil (s .subs n)) (λ b. still q ∙ sym (ap F (none-told (s .subs n) (isNil-true (s .subs n) b))))
+      (λ b. ap (flushAt p) d ∙ sym (flushing-whole (p .queue) p))))
     where
       still : s .queue ≡ [] → setFl (setPend s n x) n f17 ≡ flushing (length (s .queue)) (setFl (setPend s n x) n f17) (s .queue)
       still z = ap (λ (y : List ℕ). flushing (length y) (setFl (setPend s n x) n f17) y) (sym z)
@@ -64,9 +69,9 @@ module _ (s : St) (n : ℕ) (x : Value) where
   pub stores-later : (s .pend n ≡ x → ⊥) → (d : ℕ) → s .depth ≡ suc d → store s n x ≡ propagate written n
   unfolding store
   stores-later e d h =
-      branch (λ (t : St). t ≡ propagate written n) (same (s .pend n) x) (λ a. absurd (e (same-yes (s .pend n) x a)))
-      (λ a. branch (λ (t : St). t ≡ propagate written n) (isNil (s .subs n)) (λ b. sym (none-told (s .subs n) (isNil-true (s .subs n) b)))
-      (λ b. ap (flushAt (propagate written n)) h))
+      let P : St → Type 0 = λ t. t ≡ propagate written n in
+      so P (branch P (same (s .pend n) x) (λ a. absurd (e (same-yes (s .pend n) x a)))
+      (λ a. branch P (isNil (s .subs n)) (λ b. sym (none-told (s .subs n) (isNil-true (s .subs n) b))) (λ b. ap (flushAt (propagate written n)) h)))
 
 -- the end of the outermost batch
 pub end-flushes : (s : St) → s .depth ≡ 1 → endAt s (s .depth) ≡ flushing (length (s .queue)) (withDepth s 0) (s .queue)

@@ -8,10 +8,10 @@ use Rattle.primitive.specs.declared.flags.Named.{Named}
 use Rattle.primitive.specs.declared.values.Value.{Value}
 use Rattle.primitive.specs.Values.{same}
 use Rattle.formula.specs.Trees.{Tree, constant, size, names}
-use Rattle.meaning.specs.State.{St, Kind, signal, computed, effect, scope, f0, f1, f2, f6, f17, nothing, raised}
+use Rattle.meaning.specs.State.{St, Kind, signal, computed, effect, scope, aSignal, f0, f1, f2, f6, f17, nothing, raised}
 use Rattle.meaning.specs.Setters.{setKind, setForm, setOwner, setGone, setLevel, setFl, setSto, setPend, setDone, setRest, setSubs, withSize, withUsed, withQueue, withDepth, withCycle, withLog}
-use Rattle.meaning.specs.Links.{stop, isNil, link, purge, rewind}
-use Rattle.meaning.specs.Marks.{propagate}
+use Rattle.meaning.specs.Links.{stop, provided, isNil, link, purge, rewind}
+use Rattle.meaning.specs.Marks.{isEffect, propagate}
 use Rattle.meaning.specs.Reads.{Out, check, evaluate}
 
 -- ---- runs
@@ -19,9 +19,11 @@ use Rattle.meaning.specs.Reads.{Out, check, evaluate}
 unfoldable pub logged : Out → ℕ → St
 logged o e = withLog (o .st) (o .st .log ++ record { who = e; worth = o .val; reads = o .reads } ∷ [])
 
--- what e owns is disposed by the purge
+-- only an effect runs; what it owns is disposed by the purge
 unfoldable pub rerun : St → ℕ → St
-rerun s e = let o = evaluate (setFl (rewind (withCycle s (raised (s .cycle))) e) e f6) e in purge (setFl (logged o e) e f2) e
+rerun s e =
+    let o = evaluate (setFl (rewind (withCycle s (raised (s .cycle))) e) e f6) e in
+    provided (isEffect (s .kind e)) (purge (setFl (logged o e) e f2) e)
 
 -- its reads decide; a gone effect has flags 0 and does not run
 unfoldable pub run : St → ℕ → St
@@ -43,13 +45,14 @@ abbrev pub flushAt : St → ℕ → St
 flushAt s zero = flush s
 flushAt s (suc d) = s
 
--- ---- writes: nothing happens where the new value is the old pending one
+-- ---- writes, to signals only: nothing happens where the new value is the old pending one
 unfoldable pub store : St → ℕ → Value → St
 store s n v =
     let t = setFl (setPend s n v) n f17 in
     let p = propagate t n in
     let written : St = elim (isNil (s .subs n)) [ true ↦ t | false ↦ flushAt p (p .depth) ] in
-    elim (same (s .pend n) v) [ true ↦ s | false ↦ written ]
+    let stored : St = elim (same (s .pend n) v) [ true ↦ s | false ↦ written ] in
+    provided (aSignal (s .kind n)) stored
 
 -- ---- heights and owner depths
 unfoldable pub tallest : (ℕ → ℕ) → List ℕ → ℕ

@@ -14,7 +14,9 @@ pub mod Cases
 pub mod Played
 pub mod Reach
 pub mod Order
+pub mod Checks
 pub mod Owners
 pub mod Outcome
+pub mod Turns
 pub mod Moments
 pub mod Evaluations

@@ -14,6 +14,10 @@ use Rattle.meaning.specs.Setters.{withFree, withStuck, setDone, setRest,
 abbrev pub stop : St → St
 stop s = withStuck s true
 
+-- it can go on only where b holds
+unfoldable pub provided : Bool → St → St
+provided b s = elim b [ true ↦ s | false ↦ stop s ]
+
 -- ---- lists of slots
 abbrev pub lastOf : List ℕ → Option ℕ
 lastOf [] = none

@@ -7,7 +7,7 @@ use Prim.Native.Nat.{ℕ, zero, suc, _+_}
 use lib.IntN.{ℤ}
 use Rattle.primitive.specs.declared.flags.Named.{Named}
 use Rattle.primitive.specs.declared.values.Value.{Value}
-use Rattle.meaning.specs.State.{St, Kind, signal, computed, effect, scope, Room, deps, bare, empty}
+use Rattle.meaning.specs.State.{St, Kind, signal, computed, effect, scope, Room, deps, hasValue, empty}
 use Rattle.meaning.specs.Cases.{Told, answers, afterAll}
 
 abbrev pub bit : Bool → ℕ → ℕ
@@ -25,15 +25,9 @@ unfoldable pub subEnds : St → List ℕ → List (ℕ × ℕ)
 subEnds s [] = []
 subEnds s (l ∷ ls) = (s .sub l, s .ver l) ∷ subEnds s ls
 
-abbrev pub unlessBare : Named → Value → Option Value
-unlessBare f v = elim (bare f) [ true ↦ none | false ↦ some v ]
-
 -- the value of a signal or of an evaluated computed
 abbrev pub shownValue : Kind → Named → Value → Option Value
-shownValue signal f v = some v
-shownValue computed f v = unlessBare f v
-shownValue effect f v = none
-shownValue scope f v = none
+shownValue k f v = elim (hasValue k f) [ true ↦ some v | false ↦ none ]
 
 abbrev pub shownPending : Kind → Value → Option Value
 shownPending signal v = some v

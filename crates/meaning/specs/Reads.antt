@@ -6,9 +6,9 @@ use lib.Dec.{eqb}
 use Rattle.primitive.specs.declared.values.Value.{Value}
 use Rattle.primitive.specs.Values.{value, same, isZero}
 use Rattle.formula.specs.Trees.{Tree, constant, read, two, choose, apply}
-use Rattle.meaning.specs.State.{St, Kind, signal, computed, effect, scope, f1, f5, bare, withPending, raised, deps}
+use Rattle.meaning.specs.State.{St, Kind, signal, computed, effect, scope, f1, f5, bare, hasValue, withPending, raised, deps}
 use Rattle.meaning.specs.Setters.{setFl, setSto, withCycle}
-use Rattle.meaning.specs.Links.{stop, isNil, several, link, purge, rewind}
+use Rattle.meaning.specs.Links.{stop, provided, isNil, several, link, purge, rewind}
 use Rattle.meaning.specs.Marks.{shallow}
 
 pub record Ans : Type 0 where
@@ -40,8 +40,13 @@ evalBy rd (choose c a b) s =
     out (y .st) (y .val) (x .reads ++ y .reads)
 
 -- ---- fr is `fresh`: bring a node up to date, and say whether its stored value changed
+-- where it did, the pending subscribers are dirty
+abbrev pub spread : Ans → ℕ → St
+spread r n = elim (r .yes) [ true ↦ shallow (r .st) n | false ↦ r .st ]
+
+-- n is brought up to date for one who takes its value: it must have one
 unfoldable pub settleW : (St → ℕ → Ans) → St → ℕ → St
-settleW fr s n = let r = fr s n in elim (r .yes) [ true ↦ shallow (r .st) n | false ↦ r .st ]
+settleW fr s n = let t = spread (fr s n) n in provided (hasValue (t .kind n) (t .fl n)) t
 
 -- what a read of m by u does
 abbrev pub readW : (St → ℕ → Ans) → ℕ → St → ℕ → St
@@ -75,7 +80,7 @@ sameSlots (x ∷ xs) (y ∷ ys) = eqb x y && sameSlots xs ys
 
 -- the walk goes back up by the subscriber list of d: it must be what it was, and not empty
 unfoldable pub steady : List ℕ → St → ℕ → St
-steady was t d = elim (sameSlots was (t .subs d) && not (isNil was)) [ true ↦ t | false ↦ stop t ]
+steady was t d = provided (sameSlots was (t .subs d) && not (isNil was)) t
 
 -- the dirty check of u along its dependency links
 unfoldable pub checkOn : (St → ℕ → Ans) → ℕ → St → List ℕ → Ans

@@ -9,7 +9,7 @@ use Rattle.lists.specs.Sum.{bit, count}
 use Rattle.formula.specs.Trees.{Tree, constant, names}
 pub use Rattle.formula.specs.Names.{mostHeight}
 use Rattle.meaning.specs.State.{St, Kind, signal, computed, effect, scope, Room, readable}
-pub use Rattle.meaning.specs.State.{on}
+pub use Rattle.meaning.specs.State.{on, aSignal}
 use Rattle.meaning.specs.Reserve.{reserveOf, reserve}
 use Rattle.meaning.specs.Marks.{isEffect}
 use Rattle.meaning.specs.Engine.{levelOf, cellsOf}
@@ -54,9 +54,6 @@ pub record Asks : Type 0 where
   pub cells : Option (List ℤ)  -- and this formula
   pub barred : ℕ → Bool  -- at which depths it cannot be
   pub rows : Sight → ℕ  -- the log rows that it wants
-
-abbrev pub aSignal : Kind → Bool
-aSignal k = elim k [ signal ↦ true | computed ↦ false | effect ↦ false | scope ↦ false ]
 
 -- effects and scopes can be disposed, and own
 abbrev pub anOwner : Kind → Bool

@@ -19,6 +19,9 @@ pub data Kind : Type 0 where
 abbrev pub readable : Kind → Bool
 readable k = elim k [ signal ↦ true | computed ↦ true | effect ↦ false | scope ↦ false ]
 
+abbrev pub aSignal : Kind → Bool
+aSignal k = elim k [ signal ↦ true | computed ↦ false | effect ↦ false | scope ↦ false ]
+
 -- the place of a node in the order of dependency: today its number
 abbrev pub rank : ℕ → ℕ
 rank n = n
@@ -26,6 +29,10 @@ rank n = n
 -- no flag at all: a computed that was never evaluated
 abbrev pub bare : Named → Bool
 bare f = not (f .mutable || (f .watching || (f .«recursed_check» || (f .recursed || (f .dirty || f .pending)))))
+
+-- there is a value to take: of a signal always, of a computed once it was evaluated
+abbrev pub hasValue : Kind → Named → Bool
+hasValue k f = elim k [ signal ↦ true | computed ↦ not (bare f) | effect ↦ false | scope ↦ false ]
 
 abbrev pub unclean : Named → Bool
 unclean f = f .dirty || f .pending

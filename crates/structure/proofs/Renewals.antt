@@ -20,7 +20,7 @@ use Rattle.meaning.specs.Setters.{setFl}
 use Rattle.meaning.specs.Links.{several}
 use Rattle.meaning.specs.Marks.{shallow}
 use Rattle.meaning.specs.Played.{byte}
-use Rattle.meaning.specs.Reads.{Ans, ans, firstW, updComputed, updSignal, updW, checkW, pendingW, freshW}
+use Rattle.meaning.specs.Reads.{Ans, ans, spread, firstW, updComputed, updSignal, updW, checkW, pendingW, freshW}
 use Rattle.meaning.specs.WellFormed.{ComputedFlags, never, clean, stale, maybe, dirty as soiled}
 use Rattle.meaning.proofs.Laws.{clash}
 use Rattle.meaning.proofs.Members.{append-is-nil}
@@ -38,16 +38,12 @@ use Rattle.structure.proofs.Shallow.{woken-shows, others-shows}
 use Rattle.structure.proofs.Steps.{Sees, Tells, flags-are, signal-sees}
 use Rattle.structure.proofs.Updates.{kind-in, Refreshes, first-sim, update-sim}
 
--- a change wakes the subscribers
-abbrev pub settled : Ans → ℕ → St
-settled a n = elim (a .yes) [ true ↦ shallow (a .st) n | false ↦ a .st ]
-
 -- where one of them asks, it wakes the others
 abbrev pub shared : Ans → ℕ → Ans
 shared a n = elim (a .yes) [ true ↦ ans (elim (several (a .st .subs n)) [ true ↦ shallow (a .st) n | false ↦ a .st ]) true | false ↦ ans (a .st) false ]
 
 module _ (g : Given) (st : Static g) (ran : List ℕ) (C : List ℤ) where
-  pub wakes-sees : (X : Set) (t : Told) (a : Ans) (n : ℕ) → Inside g X (a .st) → n < g .size → Tells ran C t a → Sees ran (wakenIf t n) C (settled a n)
+  pub wakes-sees : (X : Set) (t : Told) (a : Ans) (n : ℕ) → Inside g X (a .st) → n < g .size → Tells ran C t a → Sees ran (wakenIf t n) C (spread a n)
   unfolding wakenIf
   wakes-sees X t a n i h w =
       both-ways (λ (p : State) (z : St). Sees ran p C z) (t .changed) (a .yes) (w .0)
@@ -86,24 +82,24 @@ module _ (g : Given) (st : Static g) (ran : List ℕ) (C : List ℤ) where
       signal-word : ℕ → State
       signal-word f = elim (has f dirty) [ true ↦ wakenIf (updatedSignal x n) n | false ↦ x ]
 
-      signal-by : (s .fl n ≡ f1) ⊎ (s .fl n ≡ f17) → Sees ran (signal-word (byte (s .fl n))) C (settled (by signal (s .fl n)) n)
+      signal-by : (s .fl n ≡ f1) ⊎ (s .fl n ≡ f17) → Sees ran (signal-word (byte (s .fl n))) C (spread (by signal (s .fl n)) n)
       unfolding signal-word has updW
-      signal-by (inl e) = subst (λ (f : Named). Sees ran (signal-word (byte f)) C (settled (by signal f) n)) (sym e) q
+      signal-by (inl e) = subst (λ (f : Named). Sees ran (signal-word (byte f)) C (spread (by signal f) n)) (sym e) q
       signal-by (inr e) =
           let w = signal-sees ran x C s n (inside-held g X s st i) q low in
           let f = signal-inside g st n fr frs X s n i o h ab (omega arith) kn (λ z. clash (ap (λ (y : Named). y .dirty) e) (ap (λ (y : Named). y .dirty) z)) in
-          subst (λ (f : Named). Sees ran (signal-word (byte f)) C (settled (by signal f) n)) (sym e) (wakes-sees X (updatedSignal x n) (updSignal s n) n (f .inside) h (w .1, w .0))
+          subst (λ (f : Named). Sees ran (signal-word (byte f)) C (spread (by signal f) n)) (sym e) (wakes-sees X (updatedSignal x n) (updSignal s n) n (f .inside) h (w .1, w .0))
 
-      signal-sim : Sees ran (refreshedSignal x n) C (settled (freshW fr s n) n)
+      signal-sim : Sees ran (refreshedSignal x n) C (spread (freshW fr s n) n)
       unfolding refreshedSignal signal-word
       signal-sim =
-          subst (λ (a : Ans). Sees ran (signal-word (flagsOf (x .nodes) n)) C (settled a n)) (sym (fresh-by signal kn))
-          (subst (λ (z : ℕ). Sees ran (signal-word z) C (settled (by signal (s .fl n)) n)) (sym (flags-are ran x C s n q low))
+          subst (λ (a : Ans). Sees ran (signal-word (flagsOf (x .nodes) n)) C (spread a n)) (sym (fresh-by signal kn))
+          (subst (λ (z : ℕ). Sees ran (signal-word z) C (spread (by signal (s .fl n)) n)) (sym (flags-are ran x C s n q low))
           (signal-by (i .rests n h (n-off g st n fr frs X s n i o h ab (omega arith) (ap readable kn)) .of-signal kn)))
 
     -- ---- a computed
     module _ (kn : g .kind n ≡ computed) where
-      renewed : (y : State) (t : St) → Inside g X t → Open g st X t → t .stuck ≡ false → (t .fl n ≡ f1 → ⊥) → Sees ran y C t → Sees ran (renewedBy C r y n) C (settled (updComputed fr t n) n)
+      renewed : (y : State) (t : St) → Inside g X t → Open g st X t → t .stuck ≡ false → (t .fl n ≡ f1 → ⊥) → Sees ran y C t → Sees ran (renewedBy C r y n) C (spread (updComputed fr t n) n)
       unfolding renewedBy
       renewed y t j p fr′ un z =
           wakes-sees X (updatedComputedBy C r y n) (updComputed fr t n) n (update-inside g st n fr frs X t n j p h ab (omega arith) kn un .inside) h
@@ -140,7 +136,7 @@ module _ (g : Given) (st : Static g) (ran : List ℕ) (C : List ℤ) where
             (flag-shows ran (tab (c .after .nodes) (c .after .links)) (c .after .values) C t n (inside-held g X t st i-check) (w .1) (low-at g st X t n i-check h) 1 f1 refl refl))
 
       module _ (checks : s .fl n .pending ≡ true → (deps s n ≡ [] → ⊥) → Tells ran C (checkedBy C r x n) (checkW fr s n)) where
-        surely : s .fl n ≡ f33 → (s .done n ≡ [] → ⊥) → Sees ran (surelyBy C r x n 33) C (settled (pendingW fr s n) n)
+        surely : s .fl n ≡ f33 → (s .done n ≡ [] → ⊥) → Sees ran (surelyBy C r x n 33) C (spread (pendingW fr s n) n)
         unfolding surelyBy pendingW updW
         surely e some =
             let pd : s .fl n .pending ≡ true = ap (λ (z : Named). z .pending) e in
@@ -148,8 +144,8 @@ module _ (g : Given) (st : Static g) (ran : List ℕ) (C : List ℤ) where
             let c = checkedBy C r x n in
             let w = checks pd ne in
             let k = checkW fr s n in
-            both-ways (λ (y : State) (a : Ans). Sees ran y C (settled a n)) (c .changed) (k .yes) (w .0)
-            (λ e. subst (λ (z : Kind). Sees ran (renewedBy C r (c .after) n) C (settled (updW fr z (k .st) n) n)) (sym (kind-in g st X s n computed i kn))
+            both-ways (λ (y : State) (a : Ans). Sees ran y C (spread a n)) (c .changed) (k .yes) (w .0)
+            (λ e. subst (λ (z : Kind). Sees ran (renewedBy C r (c .after) n) C (spread (updW fr z (k .st) n) n)) (sym (kind-in g st X s n computed i kn))
             (renewed (c .after) (k .st) (i-check pd ne c w) (o-check pd ne c w) (free-check pd ne c w) (un-check pd ne c w) (w .1)))
             (λ e. pending-goes pd ne c w (without 33 pending) refl e)
 
@@ -161,7 +157,7 @@ module _ (g : Given) (st : Static g) (ran : List ℕ) (C : List ℤ) where
             ]
 
         abbrev Goal : Named → Type 0
-        Goal f = Sees ran (computed-word (byte f)) C (settled (by computed f) n)
+        Goal f = Sees ran (computed-word (byte f)) C (spread (by computed f) n)
 
         computed-by : ComputedFlags (s .fl n) (s .done n) (s .subs n) → s .rest n ≡ [] → Goal (s .fl n)
         unfolding computed-word has updW
@@ -171,21 +167,21 @@ module _ (g : Given) (st : Static g) (ran : List ℕ) (C : List ℤ) where
         computed-by (maybe e d) t = subst Goal (sym e) (surely e d)
         computed-by (soiled e d) t = subst Goal (sym e) (renewed x s i o free (λ z. clash (ap (λ (y : Named). y .dirty) e) (ap (λ (y : Named). y .dirty) z)) q)
 
-        computed-sim : Sees ran (refreshedComputedBy C r x n) C (settled (freshW fr s n) n)
+        computed-sim : Sees ran (refreshedComputedBy C r x n) C (spread (freshW fr s n) n)
         unfolding refreshedComputedBy computed-word
         computed-sim =
             let a = i .rests n h (n-off g st n fr frs X s n i o h ab (omega arith) (ap readable kn)) in
-            subst (λ (a : Ans). Sees ran (computed-word (flagsOf (x .nodes) n)) C (settled a n)) (sym (fresh-by computed kn))
-            (subst (λ (z : ℕ). Sees ran (computed-word z) C (settled (by computed (s .fl n)) n)) (sym (flags-are ran x C s n q low)) (computed-by (a .of-computed kn) (a .tail)))
+            subst (λ (a : Ans). Sees ran (computed-word (flagsOf (x .nodes) n)) C (spread a n)) (sym (fresh-by computed kn))
+            (subst (λ (z : ℕ). Sees ran (computed-word z) C (spread (by computed (s .fl n)) n)) (sym (flags-are ran x C s n q low)) (computed-by (a .of-computed kn) (a .tail)))
 
     -- ---- either
     module _ (checks : g .kind n ≡ computed → s .fl n .pending ≡ true → (deps s n ≡ [] → ⊥) → Tells ran C (checkedBy C r x n) (checkW fr s n)) where
       by-kind : ℕ → State
       by-kind z = elim (eqb z SIGNAL) [ true ↦ refreshedSignal x n | false ↦ elim (eqb z COMPUTED) [ true ↦ refreshedComputedBy C r x n | false ↦ x ] ]
 
-      pub refresh-sim : (c : Kind) → g .kind n ≡ c → readable c ≡ true → Sees ran (refreshedBy C r x n) C (settled (freshW fr s n) n)
+      pub refresh-sim : (c : Kind) → g .kind n ≡ c → readable c ≡ true → Sees ran (refreshedBy C r x n) C (spread (freshW fr s n) n)
       unfolding refreshedBy by-kind
-      refresh-sim signal k e = subst (λ (z : ℕ). Sees ran (by-kind z) C (settled (freshW fr s n) n)) (sym (q .kinds .kind-word n low ∙ ap kindWord (kind-in g st X s n signal i k))) (signal-sim k)
-      refresh-sim computed k e = subst (λ (z : ℕ). Sees ran (by-kind z) C (settled (freshW fr s n) n)) (sym (q .kinds .kind-word n low ∙ ap kindWord (kind-in g st X s n computed i k))) (computed-sim k (checks k))
+      refresh-sim signal k e = subst (λ (z : ℕ). Sees ran (by-kind z) C (spread (freshW fr s n) n)) (sym (q .kinds .kind-word n low ∙ ap kindWord (kind-in g st X s n signal i k))) (signal-sim k)
+      refresh-sim computed k e = subst (λ (z : ℕ). Sees ran (by-kind z) C (spread (freshW fr s n) n)) (sym (q .kinds .kind-word n low ∙ ap kindWord (kind-in g st X s n computed i k))) (computed-sim k (checks k))
       refresh-sim effect k e = clash e refl
       refresh-sim scope k e = clash e refl

@@ -22,6 +22,7 @@ use Rattle.meaning.specs.Engine.{logged, rerun, run}
 use Rattle.meaning.specs.Played.{byte}
 use Rattle.meaning.specs.WellFormed.{In, readLinks, EffectFlags, watching as watches, pushed, pending as waits, dirty as soiled}
 use Rattle.meaning.proofs.Laws.{clash, either, up-same}
+use Rattle.meaning.proofs.Steps.{rerun-is}
 use Rattle.meaning.proofs.Rings.{purge-ring, evaluate-ring, check-ring}
 use Rattle.meaning.proofs.Still.{Given, Fixed, Still, drops-still, renews-still}
 use Rattle.meaning.proofs.Inside.{nobody, Static, Inside, Under}
@@ -75,8 +76,11 @@ module _ (g : Given) (st : Static g) (C : List ℤ) (before : List ℕ) (e : ℕ
     row : Row
     row = record { who = e; worth = evaluate t₁ e .val; reads = evaluate t₁ e .reads }
 
+    rerun-here : rerun t e ≡ purge (setFl o e f2) e
+    rerun-here = rerun-is t e (ap (λ (z : Given). z .kind e) (i .same) ∙ ke)
+
     rerun-sees : Sees before (reran C x e .after) C (rerun t e)
-    unfolding reran finishedRun rerun logged
+    unfolding reran finishedRun logged
     rerun-sees =
         let y = evaluatedFor C (begunRun x e) e .after in
         let i′ : Inside g (Run g st e) (setFl o e f2) = rerun-ends g st e he ke t i l pd in
@@ -84,11 +88,12 @@ module _ (g : Given) (st : Static g) (C : List ℤ) (before : List ℕ) (e : ℕ
         let q : Sees before y C o = relogged before (y .nodes) (y .links) (y .values) C (evaluate t₁ e .st) (o .log) (evaluate t₁ e .st .stuck) (worked .0) in
         let h = inside-held g (Run g st e) (setFl o e f2) st i′ in
         let w : Held o = record { lists = h .lists; fit = h .fit } in
-        purge-shows g st before (y .values) C (Run g st e) e he (inr refl) apart (tab (endedRun (y .nodes) e) (y .links)) (setFl o e f2) i′ (ended-sees before y C o e w q low (worked .2))
+        subst (Sees before (reran C x e .after) C) (sym rerun-here)
+        (purge-shows g st before (y .values) C (Run g st e) e he (inr refl) apart (tab (endedRun (y .nodes) e) (y .links)) (setFl o e f2) i′ (ended-sees before y C o e w q low (worked .2)))
 
     rerun-log : rerun t e .log ≡ t .log ++ row ∷ []
-    unfolding rerun logged row
-    rerun-log = log-still (setFl o e f2) (purge (setFl o e f2) e) (purge-ring Still drops-still (setFl o e f2) e) ∙ ap (λ (z : List Row). z ++ row ∷ []) (log-still t₁ (evaluate t₁ e .st) (evaluate-ring Still renews-still t₁ e))
+    unfolding logged row
+    rerun-log = ap (λ (z : St). z .log) rerun-here ∙ log-still (setFl o e f2) (purge (setFl o e f2) e) (purge-ring Still drops-still (setFl o e f2) e) ∙ ap (λ (z : List Row). z ++ row ∷ []) (log-still t₁ (evaluate t₁ e .st) (evaluate-ring Still renews-still t₁ e))
 
     rerun-value : reran C x e .value ≡ row .worth
     unfolding reran row

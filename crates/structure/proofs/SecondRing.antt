@@ -1,5 +1,5 @@
 -- The second ring over words is the second ring over lists: reading, the dirty check, updates and evaluation. By the bound of the lists, for every bound of the words: no bound is used up. Assumes nothing.
-use mathlib.Core.Path.{_≡_, refl}
+use mathlib.Core.Path.{_≡_, refl, sym, subst}
 use mathlib.Core.Bool.{true, false}
 use mathlib.Core.List.{List, []}
 use Prim.Native.Nat.{ℕ, zero, suc, _<_, _≤_}
@@ -11,11 +11,11 @@ use Rattle.primitive.specs.Words.{DEPS, linkRows, node}
 use Rattle.reads.specs.Ring.{startOf, depsBy, checkedBy, evaluatedBy, refreshedBy, ringN}
 use Rattle.reads.specs.Read.{refreshed, checked, evaluatedFor}
 use Rattle.meaning.specs.State.{St, readable, deps}
-use Rattle.meaning.specs.Reads.{settleW, checkW, fresh, settle, check, evaluate}
+use Rattle.meaning.specs.Reads.{checkW, fresh, settle, check, evaluate}
 use Rattle.meaning.proofs.Still.{Given}
 use Rattle.meaning.proofs.Inside.{Set, Static, Goes, Inside}
 use Rattle.meaning.proofs.Frames.{Open}
-use Rattle.meaning.proofs.Reading.{Above, Freshens, reads-of, During}
+use Rattle.meaning.proofs.Reading.{Above, Freshens, settle-spreads, reads-of, During}
 use Rattle.meaning.proofs.Updating.{check-apart, fresh-inside}
 use Rattle.meaning.proofs.Running.{size-is}
 use Rattle.structure.specs.Rep.{hasForm}
@@ -47,11 +47,12 @@ module _ (g : Given) (st : Static g) (ran : List ℕ) (C : List ℤ) where
 
   -- ---- one bound more
   refreshes-at : (b : ℕ) → Alike b → (a j : ℕ) → j ≤ a → j ≤ suc b → Refreshes g st ran C j (ringN C a) (fresh (suc b))
-  unfolding ringN fresh settleW
+  unfolding ringN fresh
   refreshes-at b k zero j la lb X x s m i o h r ab lt free q = absurd (omega arith)
   refreshes-at b k (suc a) j la lb X x s m i o h r ab lt free q =
-      refresh-sim g st ran C m (ringN C a) (fresh b) (freshens-at b m (omega arith)) (k .refreshes a m (omega arith) (omega arith)) X x s i o h ab free q
-      (λ kn pd ne. checks b k a m (omega arith) (omega arith) X h (λ n xn e. let z = ab n xn e in omega arith) (check-apart g st X m kn ab) x s i o free ne q) (g .kind m) refl r
+      subst (Sees ran (refreshedBy C (ringN C a) x m) C) (sym (settle-spreads g st (suc b) (fresh (suc b)) (fresh-inside g st (suc b)) X s m i o h r ab (omega arith)))
+      (refresh-sim g st ran C m (ringN C a) (fresh b) (freshens-at b m (omega arith)) (k .refreshes a m (omega arith) (omega arith)) X x s i o h ab free q
+      (λ kn pd ne. checks b k a m (omega arith) (omega arith) X h (λ n xn e. let z = ab n xn e in omega arith) (check-apart g st X m kn ab) x s i o free ne q) (g .kind m) refl r)
 
   answers-at : (b : ℕ) → Alike b → (a j : ℕ) → j ≤ a → j ≤ suc b → Answers g st ran C j (ringN C a) (fresh (suc b))
   unfolding ringN fresh

@@ -18,12 +18,12 @@ use Rattle.operations.specs.Log.{Ran, ranTo}
 use Rattle.operations.specs.Runs.{flushed}
 use Rattle.operations.specs.Batches.{flushedAt}
 use Rattle.operations.specs.Writes.{stored, announced, written, added}
-use Rattle.meaning.specs.State.{St, signal, readable, unclean, f17}
+use Rattle.meaning.specs.State.{St, signal, readable, aSignal, unclean, f17}
 use Rattle.meaning.specs.Setters.{setFl, setPend}
 use Rattle.meaning.specs.Links.{isNil}
 use Rattle.meaning.specs.Marks.{propagate}
 use Rattle.meaning.specs.Engine.{flush, flushAt, store}
-use Rattle.meaning.proofs.Laws.{up-same}
+use Rattle.meaning.proofs.Laws.{provided-so, up-same}
 use Rattle.meaning.proofs.Still.{Given}
 use Rattle.meaning.proofs.Inside.{nobody, Static, Inside}
 use Rattle.meaning.proofs.Walking.{propagate-inside, i-written}
@@ -88,10 +88,11 @@ module _ (g : Given) (st : Static g) (C : List ℤ) (l : List ℤ) where
     pub store-leaves : LeavesIf (written C x l n v) (store s n v)
     unfolding written store
     store-leaves =
-        both-ways LeavesIf (same (pendingOf (x .values) n) v) (same (s .pend n) v) (ap (λ (z : Value). same z v) (r .values .pending n))
+        provided-so (LeavesIf (written C x l n v)) (aSignal (s .kind n)) (ap (λ (z : Given). aSignal (z .kind n)) (i .same) ∙ ap aSignal kn)
+        (both-ways LeavesIf (same (pendingOf (x .values) n) v) (same (s .pend n) v) (ap (λ (z : Value). same z v) (r .values .pending n))
         (λ e fit. quiet-leaves l C x s blank r)
         (λ e. subst (λ (z : ℕ). LeavesIf (announced C (stored x n v) l (slotOf z)) (onward (s .subs n))) (sym (shows-marked [] (tab (stored x n v .nodes) (stored x n v .links)) (stored x n v .values) C t stored-sees .heads n low))
-        (told (s .subs n) refl))
+        (told (s .subs n) refl)))
 
   -- the current value + d
   pub add-leaves : (x : State) (s : St) (n : ℕ) (d : Value) → Inside g nobody s → n < g .size → g .kind n ≡ signal → s .stuck ≡ false → s .log ≡ [] → Sees [] x C s
