@@ -27,5 +27,6 @@ pub mod Sound
 pub mod Between
 pub mod Command
 pub mod History
+pub mod NoWeaker
 pub mod Used
 pub mod Wrong

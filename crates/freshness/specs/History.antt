@@ -40,9 +40,20 @@ meant s c = command true s (c .rows) (c .words)
 abbrev pub inCall : St → Call → ℕ
 inCall s c = inAnswer (refusal true (sightOf s (c .rows)) (c .words)) s (c .words)
 
+-- ---- of a history, from a state on
+-- what an engine replies to each of these calls
+unfoldable pub replies : Engine → St → List Call → List Reply
+replies E s [] = []
+replies E s (c ∷ cs) = seen (E s c) ∷ replies E (E s c .st) cs
+
+-- the evaluations that document 01's makes in them
+unfoldable pub inCalls : St → List Call → ℕ
+inCalls s [] = 0
+inCalls s (c ∷ cs) = inCall s c + inCalls (meant s c .st) cs
+
 -- ---- what has happened so far: the calls, and what was answered
 pub record Past : Type 0 where
-  pub ours : St  -- where document 01's engine stands after these calls: only stored values, evaluations and the refusal that is due are read off it
+  pub ours : St  -- where document 01's engine stands after these calls: only stored values, evaluations, the refusal that is due and the order of the runs are read off it
   pub many : ℕ  -- evaluations
   pub nodes : Nodes
   pub depth : ℕ
