@@ -30,3 +30,4 @@ pub mod History
 pub mod NoWeaker
 pub mod Used
 pub mod Wrong
+pub mod OrderNeeded

@@ -12,8 +12,8 @@ use Rattle.meaning.specs.Words.{Command, commandOf}
 use Rattle.meaning.proofs.Performed.{known}
 use Rattle.freshness.specs.Afresh.{afreshOf, readings}
 use Rattle.freshness.specs.Nodes.{Nodes, stripped, changed, ran}
-use Rattle.freshness.specs.History.{Call, Reply, seen, Engine, meant, inCall, replies, inCalls, Past, written, next, told, Course, now, after, begin}
-use Rattle.freshness.specs.Right.{FreshRows, SameRuns, valuesNow, returned, Right, Demand3}
+use Rattle.freshness.specs.History.{Call, Reply, seen, Engine, meant, inCall, replies, inCalls, Past, written, next, told, begun, Course, now, after, begin}
+use Rattle.freshness.specs.Right.{FreshRows, SameRuns, valuesNow, returned, Right, RightLog, Demand3}
 use Rattle.freshness.proofs.History.{many-is, ours-is, demand3}
 
 -- rows of the same effects, worked out afresh
@@ -117,25 +117,36 @@ upTo-told p c a h =
     let e = ap (λ (s : St). inCalls s h) (told-ours p c a) in
     omega arith
 
--- what is asked of the replies of an engine on its way
+-- two logs of the same calls
+one-log : (h : List Call) (xs ys : List Reply) (p : Past) → RightLog p h xs → RightLog p h ys → upTo p h < 2 ^ 64 → xs ≡ ys
+unfolding RightLog
+one-log [] [] [] p A B few = refl
+one-log [] [] (b ∷ ys) p A B few = absurd B
+one-log [] (a ∷ xs) ys p A B few = absurd A
+one-log (c ∷ h) [] ys p A B few = absurd A
+one-log (c ∷ h) (a ∷ xs) [] p A B few = absurd B
+one-log (c ∷ h) (a ∷ xs) (b ∷ ys) p A B few =
+    let u = upTo-told p c a h in
+    let v = upTo-told p c b h in
+    let same = one-right p c a b (A .0 (omega arith)) (B .0 (omega arith)) in
+    let rest = one-log h xs ys (told p c a) (A .1) (subst (λ (x : Reply). RightLog (told p c x) h ys) (sym same) (B .1)) (omega arith) in
+    ap₂ (λ (x : Reply) (zs : List Reply). x ∷ zs) same rest
+
+-- an engine on its way, of which it is asked of any history
 abbrev Asked : Engine → Course → Type 0
 Asked E p = (h : List Call) (c : Call) → let x = after E p h in now E x c .past .many < 2 ^ 64 → Right (x .past) c (seen (E (x .st) c)) (now E x c .past)
 
-module _ (E F : Engine) where
-  alike : (h : List Call) (s t : St) (p : Past) → Asked E (record { st = s; past = p }) → Asked F (record { st = t; past = p }) → upTo p h < 2 ^ 64 → replies E s h ≡ replies F t h
-  unfolding replies after
-  alike [] s t p A B few = refl
-  alike (c ∷ h) s t p A B few =
-      let a = seen (E s c) in
-      let b = seen (F t c) in
-      let u = upTo-told p c a h in
-      let v = told-many p c a in
-      let w = told-many p c b in
-      let same = one-right p c a b (A [] c (omega arith)) (B [] c (omega arith)) in
-      let rest = alike h (E s c .st) (F t c .st) (told p c a) (λ h′ d. A (c ∷ h′) d) (subst (λ (x : Reply). Asked F (record { st = F t c .st; past = told p c x })) (sym same) (λ h′ d. B (c ∷ h′) d)) (omega arith) in
-      ap₂ (λ (x : Reply) (xs : List Reply). x ∷ xs) same rest
+log-right : (E : Engine) (h : List Call) (p : Course) → Asked E p → RightLog (p .past) h (replies E (p .st) h)
+unfolding replies after RightLog
+log-right E [] p A = tt
+log-right E (c ∷ h) p A = (A [] c, log-right E h (now E p c) (λ h′ d. A (c ∷ h′) d))
 
--- NO WEAKER ENGINE: one that keeps demand 3 replies to any calls, one by one, as document 01's does: the same codes, values and rows with what their runs read. From empty tables of any capacities; so long as these calls make fewer than 2^64 evaluations.
+-- NO WEAKER ENGINE. Whoever gave them, and whatever it keeps: replies that are all right are document 01's, one by one, the same codes, values and rows with what their runs read. From empty tables of any capacities; so long as these calls make fewer than 2^64 evaluations.
+pub no-weaker-log : (r : Room) → capacities r ≡ true → (h : List Call) (xs : List Reply) → inCalls (empty r) h < 2 ^ 64 → RightLog (begun r) h xs → xs ≡ replies meant (empty r) h
+unfolding Demand3
+no-weaker-log r fits h xs few A = one-log h xs (replies meant (empty r) h) (begun r) A (log-right meant h (begin r) (λ h′ c l. demand3 r fits h′ c l .0)) (omega arith)
+
+-- so an engine that keeps demand 3 replies to any calls as document 01's does
 pub no-weaker : (E : Engine) → Demand3 E → (r : Room) → capacities r ≡ true → (h : List Call) → inCalls (empty r) h < 2 ^ 64 → replies E (empty r) h ≡ replies meant (empty r) h
 unfolding Demand3
-no-weaker E d r fits h few = alike E meant h (empty r) (empty r) (begin r .past) (λ h′ c l. d r fits h′ c l .0) (λ h′ c l. demand3 r fits h′ c l .0) (omega arith)
+no-weaker E d r fits h few = no-weaker-log r fits h (replies E (empty r) h) few (log-right E h (begin r) (λ h′ c l. d r fits h′ c l .0))

@@ -50,7 +50,10 @@ set7 = record { rows = 4; words = pos 5 ∷ pos 0 ∷ pos 7 ∷ [] }
 abbrev read0 : Call
 read0 = record { rows = 4; words = pos 7 ∷ pos 0 ∷ [] }
 
--- case 9: a second effect that the first owns, over a second signal; a batch that writes to both, the second first
+-- case 9: two signals, an effect over each, the second owned by the first; a batch that writes to both, the second first
+abbrev signal0 : Call
+signal0 = record { rows = 4; words = pos 1 ∷ pos 0 ∷ [] }
+
 abbrev owned1 : Call
 owned1 = record { rows = 4; words = pos 3 ∷ pos 2 ∷ pos 2 ∷ pos 1 ∷ [] }
 
@@ -60,8 +63,14 @@ begins = record { rows = 4; words = pos 9 ∷ [] }
 abbrev set1-9 : Call
 set1-9 = record { rows = 4; words = pos 5 ∷ pos 1 ∷ pos 9 ∷ [] }
 
-abbrev ends : Call
+abbrev set0-4 : Call
+set0-4 = record { rows = 4; words = pos 5 ∷ pos 0 ∷ pos 4 ∷ [] }
+
+abbrev pub ends : Call
 ends = record { rows = 4; words = pos 10 ∷ [] }
+
+abbrev pub case9 : List Call
+case9 = signal0 ∷ signal0 ∷ effect0 ∷ owned1 ∷ begins ∷ set1-9 ∷ set0-4 ∷ []
 
 -- ---- the engines: document 01's, with another answer
 abbrev answers : ℕ → Value → List Row → Answer → Answer
@@ -102,7 +111,7 @@ leaving s t [] = []
 leaving s t (e ∷ q) =
     elim (t .gone e && (not (s .gone e) && moved (s .sto) (afresh t) (readings (s .form e) (s .sto)))) [ true ↦ record { who = e; worth = worth (t .form e) (afresh t); reads = readings (t .form e) (afresh t) } ∷ leaving s t q | false ↦ leaving s t q ]
 
-abbrev early : Engine
+abbrev pub early : Engine
 early s c = let a = meant s c in answers (a .code) (a .val) (leaving s (a .st) (s .queue) ++ a .rows) a
 
 -- ---- and with another state
@@ -136,5 +145,5 @@ none-is-right = (
   λ d. let e : _≡_ {A = ℕ} 7 0 = d room refl [] signal5 (omega arith) .1 .agrees .depth in absurd (omega arith),
   λ d. let e = d room refl (signal5 ∷ []) effect0 (omega arith) .1 .records 1 (omega arith, refl, refl) .linked 0 (value (pos 5)) (inl (refl, refl)) in false≢true (e .1),
   λ d. let e : _≡_ {A = ℕ} 2 1 = d room refl (signal5 ∷ effect0 ∷ effect0 ∷ []) set6 (omega arith) .0 .order .0 in absurd (omega arith),
-  λ d. let e : _≡_ {A = ℕ} 3 2 = d room refl (signal5 ∷ signal5 ∷ effect0 ∷ owned1 ∷ begins ∷ set1-9 ∷ set6 ∷ []) ends (omega arith) .0 .order .0 in absurd (omega arith),
+  λ d. let e : _≡_ {A = ℕ} 3 2 = d room refl case9 ends (omega arith) .0 .order .0 in absurd (omega arith),
 )

@@ -14,7 +14,7 @@ use Rattle.meaning.specs.State.{St, effect, signal, Room, capacities, Row, read
 use Rattle.meaning.specs.Words.{Command, makeSignal, makeComputed, makeEffect, makeScope, setTo, addTo, readOf, disposeOf, batchStart, batchEnd, commandOf, nodeOf}
 use Rattle.freshness.specs.Afresh.{afreshOf, readings, Among, Differs}
 use Rattle.freshness.specs.Nodes.{Nodes, stripped, changed}
-use Rattle.freshness.specs.History.{Call, Reply, seen, Engine, meant, Past, now, after, begin}
+use Rattle.freshness.specs.History.{Call, Reply, seen, Engine, meant, Past, told, now, after, begin}
 
 -- e has a row
 abbrev pub HasRow : ℕ → List Row → Type 0
@@ -106,6 +106,13 @@ pub record Right (p : Past) (c : Call) (a : Reply) (q : Past) : Type 0 where
   pub order : SameRuns (a .rows) (meant (p .ours) c .rows)
   pub accepted : (k : Command) → commandOf (c .words) ≡ some k → a .code ≡ 0 → RightRuns p k a q
   pub refused : (a .code ≡ 0 → ⊥) → (a .val ≡ nothing) × (a .rows ≡ [])
+
+-- replies to calls, whoever gave them: each is right after those before it, so long as there were fewer than 2 ^ 64 evaluations
+unfoldable pub RightLog : Past → List Call → List Reply → Type 0
+RightLog p [] [] = Unit {0}
+RightLog p [] (a ∷ rest) = ⊥
+RightLog p (c ∷ cs) [] = ⊥
+RightLog p (c ∷ cs) (a ∷ rest) = let q = told p c a in (q .many < 2 ^ 64 → Right p c a q) × RightLog q cs rest
 
 -- ---- what is asked of the engine's state
 -- the read links of e go to exactly the nodes of its record

@@ -24,7 +24,7 @@ use Rattle.counts.specs.Counts.{wholeRows, withinMost, withinAll, carryIn}
 use Rattle.refusals.specs.Sight.{roomIn}
 use Rattle.operations.specs.Emptying.{emptying}
 use Rattle.freshness.specs.Evaluations.{inPerformAny, inAnswer}
-use Rattle.freshness.specs.History.{Call, Reply, meant, inCall, Past, told, begun}
+use Rattle.freshness.specs.History.{Reply, meant, inCall, Past, told, begun}
 use Rattle.freshness.specs.Right.{Right}
 use Rattle.freshness.proofs.NoWeaker.{told-ours, told-many}
 use Rattle.structure.specs.Histories.{Tables, cleared, left, Lent, answeredOn, tablesAfter}
