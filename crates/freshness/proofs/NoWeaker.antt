@@ -141,10 +141,14 @@ unfolding replies after RightLog
 log-right E [] p A = tt
 log-right E (c ∷ h) p A = (A [] c, log-right E h (now E p c) (λ h′ d. A (c ∷ h′) d))
 
+-- document 01's replies are right
+pub meant-right : (r : Room) → capacities r ≡ true → (h : List Call) → RightLog (begun r) h (replies meant (empty r) h)
+unfolding Demand3
+meant-right r fits h = log-right meant h (begin r) (λ h′ c l. demand3 r fits h′ c l .0)
+
 -- NO WEAKER ENGINE. Whoever gave them, and whatever it keeps: replies that are all right are document 01's, one by one, the same codes, values and rows with what their runs read. From empty tables of any capacities; so long as these calls make fewer than 2^64 evaluations.
 pub no-weaker-log : (r : Room) → capacities r ≡ true → (h : List Call) (xs : List Reply) → inCalls (empty r) h < 2 ^ 64 → RightLog (begun r) h xs → xs ≡ replies meant (empty r) h
-unfolding Demand3
-no-weaker-log r fits h xs few A = one-log h xs (replies meant (empty r) h) (begun r) A (log-right meant h (begin r) (λ h′ c l. demand3 r fits h′ c l .0)) (omega arith)
+no-weaker-log r fits h xs few A = one-log h xs (replies meant (empty r) h) (begun r) A (meant-right r fits h) (omega arith)
 
 -- so an engine that keeps demand 3 replies to any calls as document 01's does
 pub no-weaker : (E : Engine) → Demand3 E → (r : Room) → capacities r ≡ true → (h : List Call) → inCalls (empty r) h < 2 ^ 64 → replies E (empty r) h ≡ replies meant (empty r) h
