@@ -29,5 +29,6 @@ pub mod Command
 pub mod History
 pub mod NoWeaker
 pub mod Used
+pub mod Batches
 pub mod Wrong
 pub mod OrderNeeded

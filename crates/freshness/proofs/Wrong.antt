@@ -96,6 +96,10 @@ loud s c = let a = meant s c in answers (a .code) (a .val) (record { who = 0; wo
 abbrev settles-once : Engine
 settles-once s c = let a = meant s c in answers (a .code) (a .val) (elim (eqb (s .cycle) 0) [ true ↦ a .rows | false ↦ [] ]) a
 
+-- has each row twice
+abbrev twice : Engine
+twice s c = let a = meant s c in answers (a .code) (a .val) (a .rows ++ a .rows) a
+
 -- turns the first two rows round
 abbrev turned : List Row → List Row
 turned [] = []
@@ -132,7 +136,7 @@ forgets s c = let a = meant s c in leaves (withLive (a .st) (λ l. false)) a
 longer : {C : Type 0} (r : Row) → [] ≡ r ∷ [] → C
 longer r e = let z = ap (λ (x : List Row). length x) e in absurd (omega arith)
 
-pub none-is-right : (Demand3 refuses → ⊥) × (Demand3 reads-0 → ⊥) × (Demand3 mute → ⊥) × (Demand3 loud → ⊥) × (Demand3 settles-once → ⊥) × (Demand3 stores-nothing → ⊥) × (Demand3 deep → ⊥) × (Demand3 forgets → ⊥) × (Demand3 turns → ⊥) × (Demand3 early → ⊥)
+pub none-is-right : (Demand3 refuses → ⊥) × (Demand3 reads-0 → ⊥) × (Demand3 mute → ⊥) × (Demand3 loud → ⊥) × (Demand3 settles-once → ⊥) × (Demand3 stores-nothing → ⊥) × (Demand3 deep → ⊥) × (Demand3 forgets → ⊥) × (Demand3 twice → ⊥) × (Demand3 turns → ⊥) × (Demand3 early → ⊥)
 unfolding Demand3 sum difference minimum maximum less clamp same sameNumber isZero cellOf codes readOf bareOf apply written size names up below empty remove each renew spent insert link cut lastLink disposeW unwatchedW unlinkN chain calm effects notify mark prop soil wakes evalBy settleW firstW updComputed updSignal updW sameSlots steady checkOn checkW pendingW freshW fresh logged rerun run flushOn store tallest newSignal newComputed newScope newEffect noWord word wholeCells commands commandOf afterCells grown parse treeOf total reserve liveEffects asksOf isA unknown wrongNode goneNode allReadable badFormula tooHigh noRoom wrongDepth fewRows refusals first refusal perform performAny answer command recorded inFormula countFirst inUpdate inCheckOn inCheck inPending countFreshW countFresh countRerun countRun countFlushOn countStore countNewEffect countPerform inPerformAny inAnswer lastWritten next after afreshN afreshOf paired readings moved ownsN changed ran reads
 none-is-right = (
   λ d. let e : _≡_ {A = ℕ} 2 0 = d room refl [] signal5 (omega arith) .0 .code in absurd (omega arith),
@@ -144,6 +148,7 @@ none-is-right = (
   λ d. let e : _≡_ {A = ℕ} 3 0 = d room refl (signal5 ∷ []) read0 (omega arith) .0 .code in absurd (omega arith),
   λ d. let e : _≡_ {A = ℕ} 7 0 = d room refl [] signal5 (omega arith) .1 .agrees .depth in absurd (omega arith),
   λ d. let e = d room refl (signal5 ∷ []) effect0 (omega arith) .1 .records 1 (omega arith, refl, refl) .linked 0 (value (pos 5)) (inl (refl, refl)) in false≢true (e .1),
+  λ d. d room refl (signal5 ∷ effect0 ∷ []) set6 (omega arith) .0 .accepted (setTo (pos 0) (pos 6)) refl refl .once .0 (inl refl),
   λ d. let e : _≡_ {A = ℕ} 2 1 = d room refl (signal5 ∷ effect0 ∷ effect0 ∷ []) set6 (omega arith) .0 .order .0 in absurd (omega arith),
   λ d. let e : _≡_ {A = ℕ} 3 2 = d room refl case9 ends (omega arith) .0 .order .0 in absurd (omega arith),
 )

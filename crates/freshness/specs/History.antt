@@ -108,10 +108,10 @@ abbrev pub foundOn : ℕ → (ℕ → Bool) → ℕ → Bool
 foundOn zero f = λ e. false
 foundOn (suc d) f = f
 
--- after an answer of this code with these rows; a refused command leaves all as it was
+-- after an answer of this code with these rows; a refused command leaves all as it was, and so do words that are no command
 unfoldable pub next : Past → St → ℕ → ℕ → List Row → Option Command → Past
 next p s m (suc r) rows o = record { ours = s; many = p .many + m; nodes = p .nodes; depth = p .depth; last = p .last; reads = p .reads; writes = p .writes; found = p .found }
-next p s m zero rows none = record { ours = s; many = p .many + m; nodes = p .nodes; depth = p .depth; last = p .last; reads = p .reads; writes = writesOn (p .depth) false; found = p .found }
+next p s m zero rows none = record { ours = s; many = p .many + m; nodes = p .nodes; depth = p .depth; last = p .last; reads = p .reads; writes = p .writes; found = p .found }
 next p s m zero rows (some k) = record {
   ours = s;
   many = p .many + m;
