@@ -16,7 +16,7 @@ use Rattle.structure.specs.Histories.{Tables, cleared, left, Lent, answeredOn}
 use Rattle.payouts.specs.OnTables.{TableEngine, call, calls, Seen, seenOf, seenOn, Shows, RightOn, AllRight, Demand3On}
 use Rattle.payouts.proofs.OfCommand.{demand3-of-command}
 
--- the words of two answers, and even of one, leave no choice of the reply that is judged, though what a run read is in no word
+-- one reply is right, whatever words show it, though what a run read is in no word
 pub one-reply : (p : Past) (c : Lent) (a b : Answered) (r q : Reply) → RightOn p c a r (told p (call c) r) → RightOn p c b q (told p (call c) q) → told p (call c) r .many < 2 ^ 64 → r ≡ q
 one-reply p c a b r q R Q few =
     let m = told-many p (call c) r in
