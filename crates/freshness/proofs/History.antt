@@ -19,7 +19,7 @@ use Rattle.freshness.specs.Afresh.{afreshOf, recorded, moved, rested, Am
 use Rattle.freshness.specs.Nodes.{changed, ran}
 use Rattle.freshness.specs.Evaluations.{inPerformAny, inAnswer, inPerform}
 use Rattle.freshness.specs.History.{Call, seen, meant, inCall, Past, written, depthAfter, isWrite, writesOn, foundOn, next, Course, now, after, begin}
-use Rattle.freshness.specs.Right.{HasRow, NoTwo, LiveEffect, LiveRows, FreshRows, valuesNow, returned, Run, RightRuns, Right, Recorded, Agrees, Held, Demand3}
+use Rattle.freshness.specs.Right.{HasRow, NoTwo, LiveEffect, LiveRows, FreshRows, valuesNow, returned, Run, SameRuns, RightRuns, Right, Recorded, Agrees, Held, Demand3}
 use Rattle.meaning.proofs.Laws.{false≢true, same-some}
 use Rattle.meaning.proofs.Still.{Given, given}
 use Rattle.meaning.proofs.Flush.{whos}
@@ -54,6 +54,10 @@ no-two : (rs : List Row) → Once (whos rs) → NoTwo rs
 unfolding whos
 no-two [] o = tt
 no-two (r ∷ rs) o = (λ i. o .0 (has-in (r .who) rs i), no-two rs (o .1))
+
+same-runs : (rs : List Row) → SameRuns rs rs
+same-runs [] = tt
+same-runs (r ∷ rs) = (refl, same-runs rs)
 
 fresh-rows : (g : Given) (p : ℕ → Value) (rs : List Row) → Rowed g p rs → FreshRows (g .form) (φ g p) rs
 fresh-rows g p [] f = tt
@@ -255,7 +259,7 @@ module _ (p₀ : Course) (so : Sound (as-ours p₀)) (c : Call) where
       let n = refusal true (sightOf s (c .rows)) ws in
       let r = called n (accepted-exactly true s (c .rows) ws .0) (command-kept true s (c .rows) ws (so .formed))
       (subst (λ (b : ℕ). b < 2 ^ 64) (many-is p (meant s c .st) (inAnswer n s ws) (meant s c .code) (meant s c .rows) (commandOf ws)) few) in
-      (r .0, record { code = refl; accepted = r .1 .0; refused = r .1 .1 }, r .1 .2)
+      (r .0, record { code = refl; order = same-runs (meant s c .rows); accepted = r .1 .0; refused = r .1 .1 }, r .1 .2)
 
 pub one-call : (p : Course) → Sound p → (c : Call) → Good p c
 one-call p so c = subst (λ (z : Course). Sound z → Good z c) (sym (is-ours p (so .ours))) (λ x. of-ours p x c) so

@@ -27,5 +27,8 @@ pub mod Sound
 pub mod Between
 pub mod Command
 pub mod History
+pub mod NoWeaker
 pub mod Used
+pub mod Batches
 pub mod Wrong
+pub mod OrderNeeded

@@ -26,12 +26,12 @@ use Rattle.freshness.proofs.History.{demand3}
 abbrev pub room : Room
 room = record { nodes = 16; slots = 32; cells = 32 }
 
-abbrev call : List ℤ → Call
+abbrev pub call : List ℤ → Call
 call ws = record { rows = 4; words = ws }
 
--- signal 5; a computed that doubles it; an effect that reads both; a batch that writes 3
+-- signal 5; a computed that doubles it; an effect that reads both; a command that is refused; a batch that writes 3
 abbrev history : List Call
-history = call (pos 1 ∷ pos 5 ∷ []) ∷ call (pos 2 ∷ pos 3 ∷ pos 0 ∷ pos 2 ∷ pos 0 ∷ pos 2 ∷ pos 0 ∷ []) ∷ call (pos 3 ∷ negsuc 0 ∷ pos 3 ∷ pos 0 ∷ pos 2 ∷ pos 0 ∷ pos 2 ∷ pos 1 ∷ []) ∷ call (pos 9 ∷ []) ∷ call (pos 5 ∷ pos 0 ∷ pos 3 ∷ []) ∷ []
+history = call (pos 1 ∷ pos 5 ∷ []) ∷ call (pos 2 ∷ pos 3 ∷ pos 0 ∷ pos 2 ∷ pos 0 ∷ pos 2 ∷ pos 0 ∷ []) ∷ call (pos 3 ∷ negsuc 0 ∷ pos 3 ∷ pos 0 ∷ pos 2 ∷ pos 0 ∷ pos 2 ∷ pos 1 ∷ []) ∷ call (pos 99 ∷ []) ∷ call (pos 9 ∷ []) ∷ call (pos 5 ∷ pos 0 ∷ pos 3 ∷ []) ∷ []
 
 -- its end
 abbrev last : Call

@@ -1,8 +1,8 @@
--- Engines that are not document 01's, and fail demand 3: each on a history of at most four calls. Assumes nothing.
+-- Engines that are not document 01's, and fail demand 3: each on a history of at most eight calls. Assumes nothing.
 use mathlib.Core.Path.{_≡_, refl, sym, ap}
 use mathlib.Core.Logic.{inl}
-use mathlib.Core.Bool.{true, false}
-use mathlib.Core.List.{List, [], _∷_}
+use mathlib.Core.Bool.{true, false, not, _&&_}
+use mathlib.Core.List.{List, [], _∷_, _++_}
 use Prim.Native.Nat.{ℕ}
 use native.Mathlib.Omega.{arith}
 use lib.Dec.{eqb}
@@ -12,7 +12,7 @@ use Rattle.primitive.specs.declared.values.Value.{Value}
 use Rattle.primitive.proofs.ValueLaws.{yes-same}
 use Rattle.primitive.specs.Values.{value, sum, difference, minimum, maximum, less, clamp, same, sameNumber, isZero}
 use Rattle.formula.specs.Cells.{cellOf, codes, readOf, bareOf}
-use Rattle.formula.specs.Trees.{apply, written, size, names}
+use Rattle.formula.specs.Trees.{apply, worth, reads, written, size, names}
 use Rattle.meaning.specs.State.{up, below, empty}
 use Rattle.meaning.specs.Links.{provided, remove, each, renew, spent, insert, link, cut, lastLink, disposeW, unwatchedW, unlinkN}
 use Rattle.meaning.specs.Marks.{chain, calm, effects, notify, mark, prop, soil, wakes}
@@ -22,7 +22,7 @@ use Rattle.meaning.specs.Words.{makeSignal, makeEffect, setTo, readOf as readIt
 use Rattle.meaning.specs.Reserve.{total, reserve}
 use Rattle.meaning.specs.Refusals.{liveEffects, asksOf, isA, unknown, wrongNode, goneNode, allReadable, badFormula, tooHigh, noRoom, wrongDepth, fewRows, table as refusals, first, refusal}
 use Rattle.meaning.specs.Commands.{Answer, perform, performAny, answer, command}
-use Rattle.freshness.specs.Afresh.{afreshN, afreshOf, recorded}
+use Rattle.freshness.specs.Afresh.{afreshN, afreshOf, afresh, paired, readings, moved, recorded}
 use Rattle.meaning.specs.Evaluations.{inFormula, inUpdate, inCheckOn, inCheck, inPending, countFirst, countFlushOn, countFresh, countFreshW, countNewEffect, countPerform, countRerun, countRun, countStore}
 use Rattle.freshness.specs.Evaluations.{inPerformAny, inAnswer}
 use Rattle.meaning.specs.State.{St, Row, nothing}
@@ -50,6 +50,28 @@ set7 = record { rows = 4; words = pos 5 ∷ pos 0 ∷ pos 7 ∷ [] }
 abbrev read0 : Call
 read0 = record { rows = 4; words = pos 7 ∷ pos 0 ∷ [] }
 
+-- case 9: two signals, an effect over each, the second owned by the first; a batch that writes to both, the second first
+abbrev signal0 : Call
+signal0 = record { rows = 4; words = pos 1 ∷ pos 0 ∷ [] }
+
+abbrev owned1 : Call
+owned1 = record { rows = 4; words = pos 3 ∷ pos 2 ∷ pos 2 ∷ pos 1 ∷ [] }
+
+abbrev begins : Call
+begins = record { rows = 4; words = pos 9 ∷ [] }
+
+abbrev set1-9 : Call
+set1-9 = record { rows = 4; words = pos 5 ∷ pos 1 ∷ pos 9 ∷ [] }
+
+abbrev set0-4 : Call
+set0-4 = record { rows = 4; words = pos 5 ∷ pos 0 ∷ pos 4 ∷ [] }
+
+abbrev pub ends : Call
+ends = record { rows = 4; words = pos 10 ∷ [] }
+
+abbrev pub case9 : List Call
+case9 = signal0 ∷ signal0 ∷ effect0 ∷ owned1 ∷ begins ∷ set1-9 ∷ set0-4 ∷ []
+
 -- ---- the engines: document 01's, with another answer
 abbrev answers : ℕ → Value → List Row → Answer → Answer
 answers c v rs a = record { st = a .st; code = c; val = v; rows = rs }
@@ -74,6 +96,28 @@ loud s c = let a = meant s c in answers (a .code) (a .val) (record { who = 0; wo
 abbrev settles-once : Engine
 settles-once s c = let a = meant s c in answers (a .code) (a .val) (elim (eqb (s .cycle) 0) [ true ↦ a .rows | false ↦ [] ]) a
 
+-- has each row twice
+abbrev twice : Engine
+twice s c = let a = meant s c in answers (a .code) (a .val) (a .rows ++ a .rows) a
+
+-- turns the first two rows round
+abbrev turned : List Row → List Row
+turned [] = []
+turned (r ∷ []) = r ∷ []
+turned (r ∷ q ∷ rs) = q ∷ r ∷ rs
+
+abbrev turns : Engine
+turns s c = let a = meant s c in answers (a .code) (a .val) (turned (a .rows)) a
+
+-- runs also what is due and goes in the flush, before its owner: t is after it
+abbrev leaving : St → St → List ℕ → List Row
+leaving s t [] = []
+leaving s t (e ∷ q) =
+    elim (t .gone e && (not (s .gone e) && moved (s .sto) (afresh t) (readings (s .form e) (s .sto)))) [ true ↦ record { who = e; worth = worth (t .form e) (afresh t); reads = readings (t .form e) (afresh t) } ∷ leaving s t q | false ↦ leaving s t q ]
+
+abbrev pub early : Engine
+early s c = let a = meant s c in answers (a .code) (a .val) (leaving s (a .st) (s .queue) ++ a .rows) a
+
 -- ---- and with another state
 abbrev leaves : St → Answer → Answer
 leaves t a = record { st = t; code = a .code; val = a .val; rows = a .rows }
@@ -92,8 +136,8 @@ forgets s c = let a = meant s c in leaves (withLive (a .st) (λ l. false)) a
 longer : {C : Type 0} (r : Row) → [] ≡ r ∷ [] → C
 longer r e = let z = ap (λ (x : List Row). length x) e in absurd (omega arith)
 
-pub none-is-right : (Demand3 refuses → ⊥) × (Demand3 reads-0 → ⊥) × (Demand3 mute → ⊥) × (Demand3 loud → ⊥) × (Demand3 settles-once → ⊥) × (Demand3 stores-nothing → ⊥) × (Demand3 deep → ⊥) × (Demand3 forgets → ⊥)
-unfolding Demand3 sum difference minimum maximum less clamp same sameNumber isZero cellOf codes readOf bareOf apply written size names up below empty provided remove each renew spent insert link cut lastLink disposeW unwatchedW unlinkN chain calm effects notify mark prop soil wakes evalBy settleW firstW updComputed updSignal updW sameSlots steady checkOn checkW pendingW freshW fresh logged rerun run flushOn store tallest newSignal newComputed newScope newEffect noWord word wholeCells commands commandOf afterCells grown parse treeOf total reserve liveEffects asksOf isA unknown wrongNode goneNode allReadable badFormula tooHigh noRoom wrongDepth fewRows refusals first refusal perform performAny answer command recorded inFormula countFirst inUpdate inCheckOn inCheck inPending countFreshW countFresh countRerun countRun countFlushOn countStore countNewEffect countPerform inPerformAny inAnswer lastWritten next after afreshN afreshOf ownsN changed ran
+pub none-is-right : (Demand3 refuses → ⊥) × (Demand3 reads-0 → ⊥) × (Demand3 mute → ⊥) × (Demand3 loud → ⊥) × (Demand3 settles-once → ⊥) × (Demand3 stores-nothing → ⊥) × (Demand3 deep → ⊥) × (Demand3 forgets → ⊥) × (Demand3 twice → ⊥) × (Demand3 turns → ⊥) × (Demand3 early → ⊥)
+unfolding Demand3 sum difference minimum maximum less clamp same sameNumber isZero cellOf codes readOf bareOf apply written size names up below empty provided remove each renew spent insert link cut lastLink disposeW unwatchedW unlinkN chain calm effects notify mark prop soil wakes evalBy settleW firstW updComputed updSignal updW sameSlots steady checkOn checkW pendingW freshW fresh logged rerun run flushOn store tallest newSignal newComputed newScope newEffect noWord word wholeCells commands commandOf afterCells grown parse treeOf total reserve liveEffects asksOf isA unknown wrongNode goneNode allReadable badFormula tooHigh noRoom wrongDepth fewRows refusals first refusal perform performAny answer command recorded inFormula countFirst inUpdate inCheckOn inCheck inPending countFreshW countFresh countRerun countRun countFlushOn countStore countNewEffect countPerform inPerformAny inAnswer lastWritten next after afreshN afreshOf paired readings moved ownsN changed ran reads
 none-is-right = (
   λ d. let e : _≡_ {A = ℕ} 2 0 = d room refl [] signal5 (omega arith) .0 .code in absurd (omega arith),
   λ d. let e : nothing ≡ value (pos 5) = d room refl (signal5 ∷ []) read0 (omega arith) .0 .accepted (readIt (pos 0)) refl refl .value in false≢true (sym (ap isZero e)),
@@ -104,4 +148,7 @@ none-is-right = (
   λ d. let e : _≡_ {A = ℕ} 3 0 = d room refl (signal5 ∷ []) read0 (omega arith) .0 .code in absurd (omega arith),
   λ d. let e : _≡_ {A = ℕ} 7 0 = d room refl [] signal5 (omega arith) .1 .agrees .depth in absurd (omega arith),
   λ d. let e = d room refl (signal5 ∷ []) effect0 (omega arith) .1 .records 1 (omega arith, refl, refl) .linked 0 (value (pos 5)) (inl (refl, refl)) in false≢true (e .1),
+  λ d. d room refl (signal5 ∷ effect0 ∷ []) set6 (omega arith) .0 .accepted (setTo (pos 0) (pos 6)) refl refl .once .0 (inl refl),
+  λ d. let e : _≡_ {A = ℕ} 2 1 = d room refl (signal5 ∷ effect0 ∷ effect0 ∷ []) set6 (omega arith) .0 .order .0 in absurd (omega arith),
+  λ d. let e : _≡_ {A = ℕ} 3 2 = d room refl case9 ends (omega arith) .0 .order .0 in absurd (omega arith),
 )

@@ -40,9 +40,20 @@ meant s c = command true s (c .rows) (c .words)
 abbrev pub inCall : St → Call → ℕ
 inCall s c = inAnswer (refusal true (sightOf s (c .rows)) (c .words)) s (c .words)
 
+-- ---- of a history, from a state on
+-- what an engine replies to each of these calls
+unfoldable pub replies : Engine → St → List Call → List Reply
+replies E s [] = []
+replies E s (c ∷ cs) = seen (E s c) ∷ replies E (E s c .st) cs
+
+-- the evaluations that document 01's makes in them
+unfoldable pub inCalls : St → List Call → ℕ
+inCalls s [] = 0
+inCalls s (c ∷ cs) = inCall s c + inCalls (meant s c .st) cs
+
 -- ---- what has happened so far: the calls, and what was answered
 pub record Past : Type 0 where
-  pub ours : St  -- where document 01's engine stands after these calls: only stored values, evaluations and the refusal that is due are read off it
+  pub ours : St  -- where document 01's engine stands after these calls: only stored values, evaluations, the refusal that is due and the order of the runs are read off it
   pub many : ℕ  -- evaluations
   pub nodes : Nodes
   pub depth : ℕ
@@ -97,10 +108,10 @@ abbrev pub foundOn : ℕ → (ℕ → Bool) → ℕ → Bool
 foundOn zero f = λ e. false
 foundOn (suc d) f = f
 
--- after an answer of this code with these rows; a refused command leaves all as it was
+-- after an answer of this code with these rows; a refused command leaves all as it was, and so do words that are no command
 unfoldable pub next : Past → St → ℕ → ℕ → List Row → Option Command → Past
 next p s m (suc r) rows o = record { ours = s; many = p .many + m; nodes = p .nodes; depth = p .depth; last = p .last; reads = p .reads; writes = p .writes; found = p .found }
-next p s m zero rows none = record { ours = s; many = p .many + m; nodes = p .nodes; depth = p .depth; last = p .last; reads = p .reads; writes = writesOn (p .depth) false; found = p .found }
+next p s m zero rows none = record { ours = s; many = p .many + m; nodes = p .nodes; depth = p .depth; last = p .last; reads = p .reads; writes = p .writes; found = p .found }
 next p s m zero rows (some k) = record {
   ours = s;
   many = p .many + m;

@@ -14,7 +14,7 @@ use Rattle.meaning.specs.Words.{Command, makeSignal, makeComputed, makeEffect, 
 use Rattle.meaning.specs.Outcome.{flushes as flushesAt}
 use Rattle.freshness.specs.Afresh.{afreshOf, readings, Among, Differs}
 use Rattle.freshness.specs.Nodes.{Nodes, stripped, changed}
-use Rattle.freshness.specs.History.{Call, Reply, seen, Engine, meant, Past, now, after, begin}
+use Rattle.freshness.specs.History.{Call, Reply, seen, Engine, meant, Past, told, now, after, begin}
 
 -- e has a row
 abbrev pub HasRow : ℕ → List Row → Type 0
@@ -42,6 +42,13 @@ FreshRows form φ (r ∷ rs) = (r .worth ≡ worth (form (r .who)) φ) × (r .re
 -- nobody has a row without cause, and who has cause and is live after it has one
 abbrev pub Run : (ℕ → Type 0) → Nodes → List Row → Type 0
 Run Cause g rs = ((e : ℕ) → HasRow e rs → Cause e) × ((e : ℕ) → LiveEffect g e → Cause e → HasRow e rs)
+
+-- the same effects ran, in the same order
+abbrev pub SameRuns : List Row → List Row → Type 0
+SameRuns [] [] = Unit {0}
+SameRuns [] (q ∷ qs) = ⊥
+SameRuns (r ∷ rs) [] = ⊥
+SameRuns (r ∷ rs) (q ∷ qs) = (r .who ≡ q .who) × SameRuns rs qs
 
 -- a flush follows: a set or add at depth 0, also where nothing is queued, or an end at depth 1
 abbrev pub flushes : Past → Command → Bool
@@ -86,8 +93,17 @@ pub record RightRuns (p : Past) (k : Command) (a : Reply) (q : Past) : Type 0 wh
 -- an engine is judged by its replies: no state is asked for it
 pub record Right (p : Past) (c : Call) (a : Reply) (q : Past) : Type 0 where
   pub code : a .code ≡ meant (p .ours) c .code  -- document 01's refusals
+  -- and its order. The demand's own words fix who runs among the effects that are live after a flush; who runs among those that go in it, and the order, hang on the queue, which demand 2 fixes
+  pub order : SameRuns (a .rows) (meant (p .ours) c .rows)
   pub accepted : (k : Command) → commandOf (c .words) ≡ some k → a .code ≡ 0 → RightRuns p k a q
   pub refused : (a .code ≡ 0 → ⊥) → (a .val ≡ nothing) × (a .rows ≡ [])
+
+-- replies to calls, whoever gave them: each is right after those before it, so long as there were fewer than 2 ^ 64 evaluations
+unfoldable pub RightLog : Past → List Call → List Reply → Type 0
+RightLog p [] [] = Unit {0}
+RightLog p [] (a ∷ rest) = ⊥
+RightLog p (c ∷ cs) [] = ⊥
+RightLog p (c ∷ cs) (a ∷ rest) = let q = told p c a in (q .many < 2 ^ 64 → Right p c a q) × RightLog q cs rest
 
 -- ---- what is asked of the engine's state
 -- the read links of e go to exactly the nodes of its record

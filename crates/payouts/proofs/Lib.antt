@@ -1,3 +1,3 @@
 pub mod OfCommand
-pub mod OneReply
+pub mod NoWeaker
 pub mod Tried

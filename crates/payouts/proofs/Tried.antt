@@ -24,9 +24,9 @@ use Rattle.counts.specs.Counts.{wholeRows, withinMost, withinAll, carryIn}
 use Rattle.refusals.specs.Sight.{roomIn}
 use Rattle.operations.specs.Emptying.{emptying}
 use Rattle.freshness.specs.Evaluations.{inPerformAny, inAnswer}
-use Rattle.freshness.specs.History.{Call, Reply, meant, inCall, Past, told, begun}
+use Rattle.freshness.specs.History.{Reply, meant, inCall, Past, told, begun}
 use Rattle.freshness.specs.Right.{Right}
-use Rattle.freshness.proofs.History.{many-is, ours-is}
+use Rattle.freshness.proofs.NoWeaker.{told-ours, told-many}
 use Rattle.structure.specs.Histories.{Tables, cleared, left, Lent, answeredOn, tablesAfter}
 use Rattle.payouts.specs.OnTables.{call, Shows, HeldIn, AllRight, Demand3On}
 use Rattle.payouts.proofs.OfCommand.{demand3-of-command}
@@ -71,13 +71,6 @@ two = refl
 carries : carryIn N L W C ≡ true
 unfolding carryIn wholeRows withinAll withinMost
 carries = refl
-
--- ---- what a past has of document 01's engine hangs on no reply
-told-ours : (p : Past) (c : Call) (r : Reply) → told p c r .ours ≡ meant (p .ours) c .st
-told-ours p c r = ours-is p (meant (p .ours) c .st) (inCall (p .ours) c) (r .code) (r .rows) (commandOf (c .words))
-
-told-many : (p : Past) (c : Call) (r : Reply) → told p c r .many ≡ p .many + inCall (p .ours) c
-told-many p c r = many-is p (meant (p .ours) c .st) (inCall (p .ours) c) (r .code) (r .rows) (commandOf (c .words))
 
 -- ---- the write, on the tables that the two makings left: its words show a reply that is right, and no premise is left
 abbrev before : Tables

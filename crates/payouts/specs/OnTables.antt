@@ -26,6 +26,25 @@ TableEngine = Tables → Lent → Answered
 abbrev pub call : Lent → Call
 call c = record { rows = length (c .0) / rowWords; words = c .1 }
 
+abbrev pub calls : List Lent → List Call
+calls [] = []
+calls (c ∷ cs) = call c ∷ calls cs
+
+-- what is seen of an answer: its three numbers, and every word of the log
+pub record Seen : Type 0 where
+  pub code : ℕ
+  pub value : ℤ
+  pub runs : ℕ
+  pub log : List ℤ
+
+abbrev pub seenOf : Answered → Seen
+seenOf a = record { code = a .code; value = a .value; runs = a .runs; log = a .log }
+
+-- of each of these calls, on the tables that the one before it left
+unfoldable pub seenOn : TableEngine → Tables → List Lent → List Seen
+seenOn E t [] = []
+seenOn E t (c ∷ cs) = seenOf (E t c) ∷ seenOn E (left (E t c)) cs
+
 -- the words of an answer show a reply: its code, its value, and its rows in the log l, two words each, effect and value. What a run read is in no word; `Right` says what it is
 pub record Shows (l : List ℤ) (a : Answered) (r : Reply) : Type 0 where
   pub code : a .code ≡ r .code

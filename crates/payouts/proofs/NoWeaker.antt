@@ -1,0 +1,53 @@
+-- Demand 3 leaves no freedom on lent tables either: an engine that keeps it answers and logs as `command` does. Assumes nothing.
+use mathlib.Core.Path.{_≡_, refl, sym, ap₂, _∙_, subst}
+use mathlib.Core.Bool.{true}
+use mathlib.Core.List.{List, [], _∷_}
+use Prim.Native.Nat.{ℕ, _<_, _^_}
+use native.Mathlib.Omega.{arith}
+use lib.IntN.{ℤ}
+use Rattle.counts.specs.Counts.{carryIn}
+use Rattle.refusals.specs.Sight.{roomIn}
+use Rattle.operations.specs.Emptying.{emptying}
+use Rattle.engine.specs.Command.{Answered}
+use Rattle.meaning.specs.State.{empty}
+use Rattle.freshness.specs.History.{Reply, Past, told, begun, inCalls}
+use Rattle.freshness.proofs.NoWeaker.{one-right, told-many, upTo, upTo-told}
+use Rattle.structure.specs.Histories.{Tables, cleared, left, Lent, answeredOn}
+use Rattle.payouts.specs.OnTables.{TableEngine, call, calls, Seen, seenOf, seenOn, Shows, RightOn, AllRight, Demand3On}
+use Rattle.payouts.proofs.OfCommand.{demand3-of-command}
+
+-- one reply is right, whatever words show it, though what a run read is in no word
+pub one-reply : (p : Past) (c : Lent) (a b : Answered) (r q : Reply) → RightOn p c a r (told p (call c) r) → RightOn p c b q (told p (call c) q) → told p (call c) r .many < 2 ^ 64 → r ≡ q
+one-reply p c a b r q R Q few =
+    let m = told-many p (call c) r in
+    let n = told-many p (call c) q in
+    one-right p (call c) r q (R .right few) (Q .right (omega arith))
+
+-- a reply is shown in one way
+shown-one : (l : List ℤ) (a b : Answered) (r : Reply) → Shows l a r → Shows l b r → seenOf a ≡ seenOf b
+shown-one l a b r A B =
+    let code : a .code ≡ b .code = A .code ∙ sym (B .code) in
+    let value : a .value ≡ b .value = A .value ∙ sym (B .value) in
+    let runs : a .runs ≡ b .runs = A .runs .rows ∙ sym (B .runs .rows) in
+    let log : a .log ≡ b .log = A .runs .words ∙ sym (B .runs .words) in
+    λ i. record { code = code i; value = value i; runs = runs i; log = log i }
+
+module _ (E F : TableEngine) where
+  alike : (h : List Lent) (t u : Tables) (p : Past) → AllRight E p t h → AllRight F p u h → upTo p (calls h) < 2 ^ 64 → seenOn E t h ≡ seenOn F u h
+  unfolding seenOn AllRight inCalls
+  alike [] t u p A B few = refl
+  alike (c ∷ h) t u p A B few =
+      let r = A .0 in
+      let e = upTo-told p (call c) r (calls h) in
+      let same = one-reply p c (E t c) (F u c) r (B .0) (A .1) (B .1) (omega arith) in
+      let shows = subst (λ (x : Reply). Shows (c .0) (F u c) x) (sym same) (B .1 .shows) in
+      let rest = alike h (left (E t c)) (left (F u c)) (told p (call c) r) (A .2) (subst (λ (x : Reply). AllRight F (told p (call c) x) (left (F u c)) h) (sym same) (B .2)) (omega arith) in
+      ap₂ (λ (x : Seen) (xs : List Seen). x ∷ xs) (shown-one (c .0) (E t c) (F u c) r (A .1 .shows) shows) rest
+
+-- NO WEAKER ENGINE: one that keeps demand 3 answers any calls, one by one, as `command` does: the same code, value, run count and words of the log. On emptied tables of any lengths that carry capacities; so long as these calls make fewer than 2^64 evaluations.
+pub no-weaker-on : (E : TableEngine) → Demand3On E → (N L : List ℕ) (W C : List ℤ) → carryIn N L W C ≡ true → (h : List Lent) → inCalls (empty (roomIn N L C)) (calls h) < 2 ^ 64
+    → let t = cleared (emptying N L W C) in seenOn E t h ≡ seenOn answeredOn t h
+unfolding Demand3On
+no-weaker-on E d N L W C carry h few =
+    let t = cleared (emptying N L W C) in
+    alike E answeredOn h t t (begun (roomIn N L C)) (d N L W C carry h) (demand3-of-command N L W C carry h) (omega arith)
