@@ -8,9 +8,11 @@
  * and words it is given. What it answers, and every word it leaves in the lent tables, is determined by document 01 and proved
  * (docs/PROMISES.md). What C cannot promise it, you must:
  *
- *   - each pointer is not null and has room for as many words as the length beside it says, aligned as its type;
- *   - no two lent tables overlap;
- *   - nobody else touches the tables during a call. Two threads may work on two sets of tables, not on one.
+ *   - each pointer is not null, also where its length is 0, and has room for as many words as the length beside it says, aligned as
+ *     its type;
+ *   - nothing that is lent to one call overlaps, tables, log, words of the command and reply;
+ *   - nobody else touches these during a call. Two threads may work on two sets of tables, not on one;
+ *   - the calling thread has stack enough, which no proof bounds: 1 MiB is three times what we measured (docs/HOST.md).
  *
  * Build: `rt staticlib host` writes target/staticlib/libhost.a (x86-64 Linux). Then
  *

@@ -38,6 +38,15 @@ within-is most n e =
     let some : n ≡ 0 → ⊥ = λ z. absurd (subst T (sym (p .0) ∙ ap not (eq-eqb n 0 z)) tt) in
     (omega arith, leb-true n most (p .1))
 
+-- document 01's numbers: so many pass, and one more does not
+pub most-pass : (withinMost mostNodes 1024 ≡ true) × (withinMost mostSlots 8192 ≡ true) × (withinMost mostCellRoom 8192 ≡ true)
+unfolding withinMost
+most-pass = (refl, refl, refl)
+
+pub one-more-fails : (withinMost mostNodes 1025 ≡ false) × (withinMost mostSlots 8193 ≡ false) × (withinMost mostCellRoom 8193 ≡ false)
+unfolding withinMost
+one-more-fails = (refl, refl, refl)
+
 is-within : (most n : ℕ) → 1 ≤ n → n ≤ most → withinMost most n ≡ true
 unfolding withinMost
 is-within most n h l = let some : n ≡ 0 → ⊥ = λ z. omega arith in both-true (ap not (ne-eqb n 0 some)) (le-leb n most l)

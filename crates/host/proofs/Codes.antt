@@ -1,25 +1,18 @@
 -- What a call answers, 0 to 9 or that the reply is too short; and what the reply tells. Assumes nothing.
 use mathlib.Core.Path.{_≡_, refl, sym, ap, _∙_, subst}
-use mathlib.Core.Bool.{Bool, true, false}
-use mathlib.Core.List.{List, [], _∷_}
-use Prim.Native.Nat.{ℕ, zero, suc, _+_, _^_, _<_, _≤_}
+use mathlib.Core.List.{List}
+use Prim.Native.Nat.{ℕ, zero, suc, _^_, _<_, _≤_}
 use native.Mathlib.Omega.{arith}
 use lib.IntN.{ℤ, pos}
 use lib.ListN.{length, getD, set}
 use lib.Seq.{getD-set-same, getD-set-other, lt-length-set}
-use Rattle.meaning.specs.Refusals.{table, first, refusal}
+use Rattle.meaning.specs.Refusals.{table, refusal}
+use Rattle.meaning.proofs.Refused.{first-below}
 use Rattle.operations.specs.Log.{numberWord}
 use Rattle.engine.specs.Command.{Answered, refusalIn, answer, commandIn}
 use Rattle.host.specs.Calls.{replyWords, noReply, replied, callIn}
 use Rattle.host.proofs.Replies.{whole-reply, not-called, is-called}
 use Rattle.engine.proofs.LentLog.{runs-fit}
-
--- the first row that holds, counted from n + 1
-first-below : (n : ℕ) (bs : List Bool) → first (suc n) bs ≤ n + length bs
-unfolding first
-first-below n [] = omega arith
-first-below n (true ∷ bs) = omega arith
-first-below n (false ∷ bs) = omega (arith, first-below (suc n) bs)
 
 -- what a host reads in the reply to a command
 pub record Told (y : List ℤ) (a : Answered) : Type 0 where

@@ -11,10 +11,10 @@ use Rattle.primitive.specs.declared.slots.Slot.{Slot}
 use Rattle.primitive.specs.declared.slots.Slot.the-variants.{At, Nothing}
 use Rattle.primitive.proofs.RowLaws.{length-setField}
 use Rattle.links.specs.Free.{isLive, live}
-use Rattle.links.specs.Neighbours.{setBeside, setBesideOn}
+use Rattle.links.specs.Neighbours.{nextDep, setBeside, setBesideOn}
 use Rattle.primitive.specs.Words.{LIVE, DEP, NEXT-DEP, DEPS-TAIL, PREV-DEP, PREV-SUB, NEXT-SUB, node, link}
 use Rattle.links.specs.Table.{Tab}
-use Rattle.links.specs.Ring.{isOnly, isMutable, mended, cutOut, nextOf, walked, disposedBy, droppedBy, unwatchedBy, unlinkedBy, unlinkedN, more, Unlinks}
+use Rattle.links.specs.Ring.{isOnly, isMutable, mended, cutOut, nextOf, walked, purgedBy, disposedBy, droppedBy, unwatchedBy, unlinkedBy, unlinkedN, more, Unlinks}
 use Rattle.links.proofs.FreeLaws.{live-same, live-released, marks-stored}
 
 -- ---- a test that the code turns round
@@ -105,6 +105,11 @@ module _ (u : Tab → ℕ → ℕ → Tab) (k : ℕ) (t : Tab) (n : ℕ) where
   pub unwatched-on : isMutable (t .nodes) n ≡ true → {o : Slot} → slotOf (node (t .nodes) n DEPS-TAIL) ≡ o → droppedBy u k t n o ≡ unwatchedBy u k t n
   unfolding unwatchedBy
   unwatched-on e {o} f = rw (e, unwatchedBy) (ap (droppedBy u k t n) (sym f))
+
+-- ---- a purge begins behind the tail: where nothing stands there, nothing goes
+pub purged-none : (u : Tab → ℕ → ℕ → Tab) (k : ℕ) (t : Tab) (sub : ℕ) → nextDep t sub (node (t .nodes) sub DEPS-TAIL) ≡ 0 → purgedBy u k t sub ≡ t
+unfolding purgedBy walked
+purged-none u k t sub e = ap (λ (w : ℕ). walked u (suc k) t (slotOf w) sub) e
 
 -- ---- the turns of a purge, at the bound k
 pub record Walking (k : ℕ) (t₀ : Tab) (d₀ : Slot) (sub : ℕ) (t : Tab) (d : Slot) : Type 0 where

@@ -4,11 +4,11 @@ use mathlib.Core.Logic.{_⊎_, inl, inr, _↔_}
 use mathlib.Core.Bool.{Bool, true, false, not}
 use mathlib.Core.List.{List, [], _∷_}
 use mathlib.Core.Option.{Option, some}
-use Prim.Native.Nat.{ℕ, zero, suc, _+_, _<_}
+use Prim.Native.Nat.{ℕ, zero, suc, _+_, _<_, _≤_}
 use native.Mathlib.Omega.{arith}
 use lib.Dec.{leb}
 use lib.IntN.{ℤ}
-use lib.ListN.{getD}
+use lib.ListN.{length, getD}
 use borrow.Author.Tests.{eq-eqb, not-true}
 use Rattle.meaning.specs.State.{St, nothing}
 use Rattle.meaning.specs.Words.{Command, batchStart, batchEnd, commandOf}
@@ -23,6 +23,13 @@ FirstHolds bs i = (getD bs i false ≡ true) × ((j : ℕ) → j < i → getD bs
 
 abbrev pub NoneHolds : List Bool → Type 0
 NoneHolds bs = (j : ℕ) → getD bs j false ≡ false
+
+-- no number past the last row
+pub first-below : (n : ℕ) (bs : List Bool) → first (suc n) bs ≤ n + length bs
+unfolding first
+first-below n [] = omega arith
+first-below n (true ∷ bs) = omega arith
+first-below n (false ∷ bs) = omega (arith, first-below (suc n) bs)
 
 -- ---- one law over any list of rows
 first-given : (bs : List Bool) (n i : ℕ) → FirstHolds bs i → first (suc n) bs ≡ suc (n + i)

@@ -46,7 +46,8 @@ unless false k = k
 abbrev pub clean-sum : (ℕ → Named) → (ℕ → ℕ) → ℕ → ℕ
 clean-sum f c n = total (λ m. unless (unclean (f m)) (c m)) n
 
-falls : (s : St) (m : Marks) (u n : ℕ) (c : ℕ → ℕ) → u < n → unclean (m .fl u) ≡ false → clean-sum (mark s m u .fl) c n + c u ≤ clean-sum (m .fl) c n
+-- clean nodes become fewer with each mark
+pub falls : (s : St) (m : Marks) (u n : ℕ) (c : ℕ → ℕ) → u < n → unclean (m .fl u) ≡ false → clean-sum (mark s m u .fl) c n + c u ≤ clean-sum (m .fl) c n
 falls s m u n c h e =
     total-spare (λ k. unless (unclean (mark s m u .fl k)) (c k)) (λ k. unless (unclean (m .fl k)) (c k)) n u (c u) h
     (let a : unless (unclean (mark s m u .fl u)) (c u) ≡ 0 = ap (λ (b : Bool). unless b (c u)) (or-last (mark s m u .fl u .dirty) _ (mark-here s m u u refl)) in
@@ -55,6 +56,15 @@ falls s m u n c h e =
     (λ k l. either (eqb k u)
     (λ q. let a : unless (unclean (mark s m u .fl k)) (c k) ≡ 0 = ap (λ (b : Bool). unless b (c k)) (or-last (mark s m u .fl k .dirty) _ (mark-here s m u k (eqb-true k u q))) in omega arith)
     (λ q. let a = ap (λ (b : Bool). unless b (c k)) (ap₂ (λ (x y : Bool). x || y) (mark-dirty s m u k) (mark-there s m u k (eqb-false k u q))) in omega arith))
+
+pub total-ones : (f : ℕ → ℕ) (n : ℕ) → ((m : ℕ) → f m ≤ 1) → total f n ≤ n
+unfolding total
+total-ones f zero h = omega arith
+total-ones f (suc n) h = let a = total-ones f n h in let b = h n in omega arith
+
+pub unless-most : (b : Bool) (k : ℕ) → unless b k ≤ k
+unless-most true k = omega arith
+unless-most false k = omega arith
 
 module _ (g : Given) (st : Static g) (s : St) where
   -- a live read link
@@ -146,11 +156,6 @@ module _ (g : Given) (st : Static g) (s : St) where
   propagate-turns d i r k = prop-turns k (marksOf s) (s .subs d) [] i (λ l j. let x = i .lists .subs-live l d j in (x .0, ap (λ (z : ℕ). readable (g .kind z)) (x .1) ∙ r)) tt
 
   -- ---- the budget
-  total-ones : (f : ℕ → ℕ) (n : ℕ) → ((m : ℕ) → f m ≤ 1) → total f n ≤ n
-  unfolding total
-  total-ones f zero h = omega arith
-  total-ones f (suc n) h = let a = total-ones f n h in let b = h n in omega arith
-
   subs-most : Slots g s → total (λ n. length (s .subs n)) (g .size) ≤ g .room .slots
   subs-most o =
       let a = gather-length (s .subs) (g .size) in
@@ -158,10 +163,6 @@ module _ (g : Given) (st : Static g) (s : St) where
       (gather-once (s .subs) (g .size) (λ m h. o .subs-once m) (λ x y l p q. sym (o .subs-live l x p .1) ∙ o .subs-live l y q .1))
       (λ l j. let x = gather-in (s .subs) (g .size) l j in o .live-slot l (o .subs-live l (x .0) (x .2) .0)) in
       omega arith
-
-  unless-most : (b : Bool) (k : ℕ) → unless b k ≤ k
-  unless-most true k = omega arith
-  unless-most false k = omega arith
 
   pub propagate-inside : (d : ℕ) → Inside g nobody s → d < g .size → readable (g .kind d) ≡ true → unclean (s .fl d) ≡ true → Goes-on g nobody s (propagate s d)
   propagate-inside d i h r un =

@@ -24,10 +24,10 @@ pub record Filled (before : List ℕ) (at end at' end' : ℕ) (over : Bool) (aft
   pub within : end' ≤ length after
   pub last : over ≡ true → end' ≡ length (unread before at end)
 
--- After it there is room for 256 bytes, if the buffer has so many; where there was, nothing was written.
+-- Where room for 256 bytes was left, nothing was written; else all was sent, and the buffer is empty.
 pub record Spilled (long at at' : ℕ) : Type 0 where
-  pub room : 256 ≤ long → at' + 256 ≤ long
   pub kept : at + 256 ≤ long → at' ≡ at
+  pub spilled : long < at + 256 → at' ≡ 0
 
 -- Where a byte is unread it is the next, and nothing else changes.
 pub record Taken (before : List ℕ) (at end byte at' end' : ℕ) (after : List ℕ) : Type 0 where

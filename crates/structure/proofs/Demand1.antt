@@ -4,7 +4,7 @@
 use mathlib.Core.Path.{_≡_, refl, sym, ap, _∙_}
 use mathlib.Core.Logic.{_↔_}
 use mathlib.Core.Bool.{Bool, true, false, not}
-use mathlib.Core.List.{List, [], _∷_}
+use mathlib.Core.List.{List}
 use Prim.Native.Nat.{ℕ, zero, suc, _+_, _≤_, _/_}
 use native.Mathlib.Omega.{arith}
 use borrow.Author.Tests.{not-true, not-false}
@@ -18,7 +18,7 @@ use Rattle.meaning.specs.Commands.{command}
 use Rattle.meaning.specs.WellFormed.{WellFormed}
 use Rattle.meaning.proofs.Laws.{clash}
 use Rattle.meaning.proofs.Promised.{nothing-stuck}
-use Rattle.meaning.proofs.Refused.{FirstHolds, NoneHolds, first-exact, first-zero}
+use Rattle.meaning.proofs.Refused.{FirstHolds, NoneHolds, first-below, first-exact, first-zero}
 use Rattle.refusals.specs.Sight.{sightIn, roomIn}
 use Rattle.operations.specs.Log.{rowWords}
 use Rattle.operations.specs.Emptying.{emptied, emptying}
@@ -33,12 +33,6 @@ use Rattle.structure.proofs.Exact.{exactly, refusal-same, accepted-repr
 use Rattle.structure.proofs.EmptyTables.{emptied-represents, emptied-accepted}
 use Rattle.structure.proofs.Commands.{command-same}
 use Rattle.structure.proofs.Histories.{emptied-stays}
-
-few : (n : ℕ) (bs : List Bool) → first (suc n) bs ≤ n + length bs
-unfolding first
-few n [] = omega arith
-few n (true ∷ bs) = omega arith
-few n (false ∷ bs) = let h = few (suc n) bs in omega arith
 
 module _ (N L : List ℕ) (W C G ws : List ℤ) where
   abbrev answered : Answered
@@ -59,7 +53,7 @@ module _ (N L : List ℕ) (W C G ws : List ℤ) where
   -- any command on any lent tables gets an answer: 0, or one of nine numbers
   pub gets-an-answer : answered .code ≤ 9
   unfolding table
-  gets-an-answer = let h = few 0 Rows in let e = code-first in omega arith
+  gets-an-answer = let h = first-below 0 Rows in let e = code-first in omega arith
 
   -- a number is given exactly when its row holds and no lower one does: row i has number i + 1
   pub given-exactly : (i : ℕ) → (answered .code ≡ suc i) ↔ FirstHolds Rows i

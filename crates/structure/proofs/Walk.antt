@@ -1,17 +1,15 @@
 -- Propagate over words, with its stack of words, is propagate over lists. For any turns and any stack that are enough. Assumes nothing.
-use mathlib.Core.Path.{_≡_, refl, sym, ap, ap₂, _∙_, subst}
-use mathlib.Core.Bool.{Bool, true, false, not, _||_}
+use mathlib.Core.Path.{_≡_, refl, sym, ap, _∙_, subst}
+use mathlib.Core.Bool.{Bool, true, false, not}
 use mathlib.Core.Logic.{_⊎_, inl, inr}
 use mathlib.Core.List.{List, [], _∷_, _++_, reverse}
 use mathlib.Core.Option.{Option}
 use Prim.Native.Nat.{ℕ, zero, suc, _+_, _<_, _≤_}
 use native.Mathlib.Omega.{arith}
 use lib.Bits.{bitOr}
-use lib.Dec.{eqb}
 use lib.IntN.{ℤ}
 use lib.ListN.{length, getD, set, replicate, length-append, length-set, length-replicate, length-reverse}
 use lib.Seq.{getD-set-same}
-use borrow.Author.Tests.{eqb-true, eqb-false}
 use Rattle.primitive.specs.declared.flags.Named.{Named}
 use Rattle.primitive.specs.declared.slots.Slot.the-variants.{At, Nothing}
 use Rattle.primitive.specs.Slots.{slotOf}
@@ -33,33 +31,18 @@ use Rattle.meaning.specs.Marks.{Marks, marks, marksOf, withMarks, halt, chain, 
 use Rattle.meaning.specs.Played.{byte}
 use Rattle.meaning.specs.Reserve.{total}
 use Rattle.meaning.specs.WellFormed.{In, ComputedFlags, never, clean, stale, maybe, dirty}
-use Rattle.meaning.proofs.Laws.{clash, either, branch, or-last, or-true, in-cases}
+use Rattle.meaning.proofs.Laws.{clash, either, branch, or-true, in-cases}
 use Rattle.meaning.proofs.Members.{most-below, total-spare, gather, gather-length, gather-once, gather-in, nil-none}
 use Rattle.meaning.proofs.Still.{Given}
 use Rattle.meaning.proofs.Inside.{nobody, Static, Inside, moves-read}
-use Rattle.meaning.proofs.Reached.{mark-dirty, mark-here, mark-there}
 use Rattle.meaning.proofs.Marking.{stuck-inside, no-recursing, mark-inside}
-use Rattle.meaning.proofs.Walking.{unless, clean-sum, propagate-inside}
+use Rattle.meaning.proofs.Walking.{unless, unless-most, total-ones, clean-sum, falls, propagate-inside}
 use Rattle.structure.specs.Chains.{firstWord}
 use Rattle.structure.proofs.Held.{Shows}
 use Rattle.structure.proofs.Link.{both-ways}
 use Rattle.structure.proofs.FlagBytes.{byte-low, lacks-busy, lacks-changed, has-watching, has-mutable, or-pending}
 use Rattle.structure.proofs.Marked.{Marked, Along, subs-along, flag-is, mark-flag, shows-marked, marked-shows}
 use Rattle.structure.proofs.Notify.{Lives, notify-sim}
-
--- ---- clean nodes become fewer with each mark
-falls : (s : St) (m : Marks) (u n : ℕ) (c : ℕ → ℕ) → u < n → unclean (m .fl u) ≡ false → clean-sum (mark s m u .fl) c n + c u ≤ clean-sum (m .fl) c n
-falls s m u n c h e =
-    total-spare (λ k. unless (unclean (mark s m u .fl k)) (c k)) (λ k. unless (unclean (m .fl k)) (c k)) n u (c u) h
-    (let a : unless (unclean (mark s m u .fl u)) (c u) ≡ 0 = marked u refl in
-    let b : unless (unclean (m .fl u)) (c u) ≡ c u = ap (λ (b : Bool). unless b (c u)) e in
-    omega arith)
-    (λ k l. either (eqb k u)
-    (λ q. let a = marked k (eqb-true k u q) in omega arith)
-    (λ q. let a = ap (λ (b : Bool). unless b (c k)) (ap₂ (λ (x y : Bool). x || y) (mark-dirty s m u k) (mark-there s m u k (eqb-false k u q))) in omega arith))
-  where
-    marked : (k : ℕ) → k ≡ u → unless (unclean (mark s m u .fl k)) (c k) ≡ 0
-    marked k q = ap (λ (b : Bool). unless b (c k)) (or-last (mark s m u .fl k .dirty) _ (mark-here s m u k q))
 
 -- ---- the words put aside, the last first, are the lists put aside
 abbrev Aside : List ℕ → List ℕ → ℕ → List (List ℕ) → Type 0
@@ -391,15 +374,6 @@ module _ (g : Given) (st : Static g) (L : List ℕ) (s : St) (subs-are : (x : �
   both-walks (suc k) = let r = both-walks k in let z = slot-step k (r .0) (r .1) in (z, list-step k z (r .1))
 
 -- ---- the bounds at the start
-ones : (f : ℕ → ℕ) (n : ℕ) → ((m : ℕ) → f m ≤ 1) → total f n ≤ n
-unfolding total
-ones f zero h = omega arith
-ones f (suc n) h = let a = ones f n h in let b = h n in omega arith
-
-unless-most : (b : Bool) (k : ℕ) → unless b k ≤ k
-unless-most true k = omega arith
-unless-most false k = omega arith
-
 -- whatever budget and stack are enough, the walk leaves the marks of the lists
 pub propagate-marks : (g : Given) (st : Static g) (t : Tab) (W C : List ℤ) (s : St) (d x : ℕ) (ls : List ℕ) → Inside g nobody s → Shows [] t W C s → d < g .size → readable (g .kind d) ≡ true → unclean (s .fl d) ≡ true
     → s .stuck ≡ false → s .subs d ≡ x ∷ ls → (j a : ℕ) → linkRows (t .links) ≤ j → s .room .nodes ≤ a
@@ -420,7 +394,7 @@ propagate-marks g st t W C s d x ls i r h rd un free e j a many deep =
     let here : unless (unclean (s .fl d)) (length (s .subs d)) ≡ 0 = ap (λ (z : Bool). unless z (length (s .subs d))) un in
     let c : clean-sum (s .fl) (λ n. length (s .subs n)) (g .size) + length (s .subs d) ≤ total (λ n. length (s .subs n)) (g .size) =
     total-spare (λ n. unless (unclean (s .fl n)) (length (s .subs n))) (λ n. length (s .subs n)) (g .size) d (length (s .subs d)) h (omega arith) (λ n lt. unless-most (unclean (s .fl n)) (length (s .subs n))) in
-    let one = ones (λ n. unless (unclean (s .fl n)) 1) (g .size) (λ n. unless-most (unclean (s .fl n)) 1) in
+    let one = total-ones (λ n. unless (unclean (s .fl n)) 1) (g .size) (λ n. unless-most (unclean (s .fl n)) 1) in
     let n = ap length e in
     let rows = r .lengths .of-links in
     let stuck : propagate s d .stuck ≡ false = propagate-inside g st s d i h rd un .stuck ∙ free in
