@@ -13,8 +13,8 @@ use borrow.Author.Tests.{lt-ltb, le-ltb, lt-leb, le-leb, ltb-true, ltb-false, le
 use Rattle.primitive.specs.declared.values.Value.{Value}
 use Rattle.primitive.specs.Words.{COUNT, USED, nodeRows}
 use Rattle.reads.specs.Tables.{State, state}
-use Rattle.operations.specs.declared.making.Sort.{Sort}
-use Rattle.operations.specs.Making.{hasRoom, described, valued, laid, made, make}
+use Rattle.making.specs.declared.Sort.{Sort}
+use Rattle.making.specs.Making.{hasRoom, described, valued, laid, made, make}
 
 -- ---- room
 pub no-node : (N : List ℕ) (c : List ℤ) (k : ℕ) {n : ℕ} → n ≡ getD N COUNT 0 → nodeRows N ≤ suc n → false ≡ hasRoom N c k

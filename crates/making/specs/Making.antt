@@ -19,9 +19,9 @@ use Rattle.links.specs.Link.{linked}
 use Rattle.marks.specs.Fields.{none, mutable}
 use Rattle.reads.specs.Tables.{State, state, setCurrent, setPending}
 use Rattle.reads.specs.Read.{evaluatedFor}
-use Rattle.operations.specs.declared.making.Sort.{Sort}
+use Rattle.making.specs.declared.Sort.{Sort}
 use Rattle.operations.specs.Log.{Ran, ranTo, rowed, rowsIn}
 use Rattle.operations.specs.Runs.{running, endedRun}
 
 -- ---- the words of a new node
 -- these fields of node n, each with its word

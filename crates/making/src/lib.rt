@@ -1,11 +1,11 @@
 // The making of nodes. A new node has the next number, and its formula the next cells. After the constructors of Signal, Computed, Effect and EffectScope in lib.rs.
-use crate::log::write_row;
-use crate::runs::RUNNING;
-use crate::runs::end_run;
 use counts::depths::depth_under;
 use formula::scans::height;
 use formula::scans::read_cells;
 use links::link::link;
+use operations::log::write_row;
+use operations::runs::RUNNING;
+use operations::runs::end_run;
 use primitive::flags::Flags;
 use primitive::rows::CELLS;
 use primitive::rows::COMPUTED;
@@ -39,8 +39,8 @@ ghost use Prim.Native.Nat.{ℕ, _+_};
 ghost use lib.IntN.{ℤ};
 ghost use lib.ListN.{set};
 ghost use Rattle.reads.specs.Tables.{state};
 ghost use Rattle.operations.specs.Log.{ranTo};
-ghost use Rattle.operations.specs.Making.{hasRoom, described, valued, laid, made, make, owned, newSignal, newComputed, newScope, started, newEffect};
+ghost use Rattle.making.specs.Making.{hasRoom, described, valued, laid, made, make, owned, newSignal, newComputed, newScope, started, newEffect};
 
 // What a new node is, besides its formula. The owner is a word: 0 for none, else its number + 1.
 pub struct Sort {

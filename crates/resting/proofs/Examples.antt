@@ -16,14 +16,14 @@ use Rattle.lists.specs.Sum.{sum}
 use Rattle.lists.specs.Walk.{slots, run, runs}
 use Rattle.lists.specs.Each.{every, along, tally}
 use Rattle.lists.specs.Once.{scan, stamp}
-use Rattle.joined.specs.Blank.{blank}
-use Rattle.joined.specs.Linked.{isLive, fits, spare, walks, frees, linkedIn}
-use Rattle.joined.specs.Depends.{ownerIs, mayDepend, dependsOn, dependsAt, onlyTo, ownedOn, ownedAt}
-use Rattle.joined.specs.Named.{readsFrom, namesOf, stampNode, stamped, linksStamped, namedFrom, namedIn}
-use Rattle.joined.specs.Flagged.{signalFlags, computedFlags, effectFlags, goneFlags, flagsOn}
-use Rattle.joined.specs.Queued.{waitsOn, mayWait, lives, due, scanned, idle, queuedIn}
-use Rattle.joined.specs.Joined.{flaggedAt, restsAt, restIn, joinedIn}
-use Rattle.joined.specs.AtRest.{subsOf, depsOf}
+use Rattle.resting.specs.Blank.{blank}
+use Rattle.resting.specs.Linked.{isLive, fits, spare, walks, frees, linkedIn}
+use Rattle.resting.specs.Depends.{ownerIs, mayDepend, dependsOn, dependsAt, onlyTo, ownedOn, ownedAt}
+use Rattle.resting.specs.Named.{readsFrom, namesOf, stampNode, stamped, linksStamped, namedFrom, namedIn}
+use Rattle.resting.specs.Flagged.{signalFlags, computedFlags, effectFlags, goneFlags, flagsOn}
+use Rattle.resting.specs.Queued.{waitsOn, mayWait, lives, due, scanned, idle, queuedIn}
+use Rattle.resting.specs.Joined.{flaggedAt, restsAt, restIn, joinedIn}
+use Rattle.resting.specs.AtRest.{subsOf, depsOf}
 
 nodes : List ℕ
 nodes =

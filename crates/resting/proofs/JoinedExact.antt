@@ -10,15 +10,15 @@ use Rattle.primitive.specs.Rows.{field}
 use Rattle.lists.specs.Sum.{All}
 use Rattle.lists.proofs.EachLaws.{both-true, true-both, every-sound, every-complete, all-map}
 use Rattle.counts.specs.Counts.{countedIn, mostNodes}
-use Rattle.joined.specs.Linked.{isLive, linkedIn}
-use Rattle.joined.specs.Depends.{dependsAt, ownedAt}
-use Rattle.joined.specs.Named.{namedIn}
-use Rattle.joined.specs.Joined.{restsAt, restIn, joinedIn}
-use Rattle.joined.specs.AtRest.{depsOf, Listed, Linked, Joined}
-use Rattle.joined.proofs.LinkedExact.{linked-sound, linked-complete}
-use Rattle.joined.proofs.NodesExact.{depends-sound, depends-complete, owned-sound, owned-complete, flagged-sound, flagged-complete}
-use Rattle.joined.proofs.NamedExact.{named-sound, named-complete}
-use Rattle.joined.proofs.QueuedExact.{queued-sound, queued-complete}
+use Rattle.resting.specs.Linked.{isLive, linkedIn}
+use Rattle.resting.specs.Depends.{dependsAt, ownedAt}
+use Rattle.resting.specs.Named.{namedIn}
+use Rattle.resting.specs.Joined.{restsAt, restIn, joinedIn}
+use Rattle.resting.specs.AtRest.{depsOf, Listed, Linked, Joined}
+use Rattle.resting.proofs.LinkedExact.{linked-sound, linked-complete}
+use Rattle.resting.proofs.NodesExact.{depends-sound, depends-complete, owned-sound, owned-complete, flagged-sound, flagged-complete}
+use Rattle.resting.proofs.NamedExact.{named-sound, named-complete}
+use Rattle.resting.proofs.QueuedExact.{queued-sound, queued-complete}
 
 listed-live : (l : List ℕ) (own prev next n p w : ℕ) (xs : List ℕ) (tail : ℕ) → Listed l own prev next n p w xs tail → All (λ (x : ℕ). isLive l x ≡ true) xs
 listed-live l own prev next n p w [] tail c = tt

@@ -19,10 +19,10 @@ use Rattle.lists.proofs.WalkLaws.{sound, complete, decode, each, once}
 use Rattle.lists.proofs.Many.{sounds, completes}
 use Rattle.lists.proofs.EachLaws.{both-true, true-both}
 use Rattle.lists.proofs.Exact.{count-not, lengths-le, each-once, long-enough}
-use Rattle.joined.specs.declared.linked.Side.{Side}
+use Rattle.resting.specs.declared.linked.Side.{Side}
 use Rattle.counts.specs.Counts.{countedIn, slotRoom}
-use Rattle.joined.specs.Linked.{subscribers, dependencies, isLive, fits, spare, walks, frees, linkedIn}
-use Rattle.joined.specs.AtRest.{listFrom, subsOf, depsOf, freeOf, Listed, FreeList, Linked}
+use Rattle.resting.specs.Linked.{subscribers, dependencies, isLive, fits, spare, walks, frees, linkedIn}
+use Rattle.resting.specs.AtRest.{listFrom, subsOf, depsOf, freeOf, Listed, FreeList, Linked}
 
 -- a live slot is there: what lies past the end reads 0
 pub live-low : (l : List ℕ) (x : ℕ) → isLive l x ≡ true → x < slotRoom l

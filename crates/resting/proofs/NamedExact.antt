@@ -15,10 +15,10 @@ use Rattle.lists.specs.Each.{pick}
 use Rattle.lists.proofs.EachLaws.{cond-true, true-cond, all-map, all-zip, along-sound, along-complete}
 use Rattle.lists.proofs.Stamps.{stamped-sound, stamped-complete, stamp-le, length-stamp}
 use Rattle.counts.specs.Counts.{countedIn, mostNodes, slotRoom}
-use Rattle.joined.specs.Blank.{blank}
-use Rattle.joined.specs.Named.{namesOf, stampNode, stamped, linksStamped, namedFrom, namedIn}
-use Rattle.joined.specs.AtRest.{depsOf, Named}
-use Rattle.joined.proofs.QueuedExact.{blank-length, blank-clear}
+use Rattle.resting.specs.Blank.{blank}
+use Rattle.resting.specs.Named.{namesOf, stampNode, stamped, linksStamped, namedFrom, namedIn}
+use Rattle.resting.specs.AtRest.{depsOf, Named}
+use Rattle.resting.proofs.QueuedExact.{blank-length, blank-clear}
 
 module _ (t s : List ℕ) (v d : ℕ) where
   stamped-yes : stamped t s v d ≡ true → readableIn t d ≡ true → getD s d 0 ≡ v

@@ -14,13 +14,13 @@ use Rattle.lists.specs.Each.{both, either, pick}
 use Rattle.lists.proofs.SumLaws.{clash}
 use Rattle.lists.proofs.EachLaws.{both-true, true-both, either-true, true-either, pick-true, all-map, along-sound, along-complete, tally-keep}
 use Rattle.counts.specs.Counts.{countedIn, slotRoom}
-use Rattle.joined.specs.Depends.{readsKind, ownsKind, mayOn, ownerIs, mayDepend, dependsOn, dependsAt, onlyTo, ownedOn, ownedAt}
-use Rattle.joined.specs.Named.{readsFrom}
-use Rattle.joined.specs.Flagged.{signalFlags, computedFlags, effectFlags, goneFlags, flagsOn}
-use Rattle.joined.specs.Joined.{flaggedAt}
-use Rattle.joined.specs.AtRest.{subsOf, depsOf, readLinksOf, Listed, Linked, May, Depends, Owned, Few, Flagged, FlaggedAt}
-use Rattle.joined.specs.AtRest.{signal-clean, signal-set, computed-never, computed-clean, computed-bare, computed-pending, computed-dirty}
-use Rattle.joined.specs.AtRest.{effect-watching, effect-queued, effect-pending, effect-dirty, gone-queued, gone-done, scope-still}
+use Rattle.resting.specs.Depends.{readsKind, ownsKind, mayOn, ownerIs, mayDepend, dependsOn, dependsAt, onlyTo, ownedOn, ownedAt}
+use Rattle.resting.specs.Named.{readsFrom}
+use Rattle.resting.specs.Flagged.{signalFlags, computedFlags, effectFlags, goneFlags, flagsOn}
+use Rattle.resting.specs.Joined.{flaggedAt}
+use Rattle.resting.specs.AtRest.{subsOf, depsOf, readLinksOf, Listed, Linked, May, Depends, Owned, Few, Flagged, FlaggedAt}
+use Rattle.resting.specs.AtRest.{signal-clean, signal-set, computed-never, computed-clean, computed-bare, computed-pending, computed-dirty}
+use Rattle.resting.specs.AtRest.{effect-watching, effect-queued, effect-pending, effect-dirty, gone-queued, gone-done, scope-still}
 
 -- ---- what depends on what
 two-kinds : (kind a b : ℕ) → either (eqb kind a) (eqb kind b) ≡ true → (kind ≡ a) ⊎ (kind ≡ b)

@@ -14,10 +14,10 @@ use Rattle.lists.specs.Each.{pick}
 use Rattle.lists.proofs.EachLaws.{both-true, true-both, all-map}
 use Rattle.lists.proofs.OnceLaws.{once-sound, once-complete}
 use Rattle.counts.specs.Counts.{countedIn, mostNodes}
-use Rattle.joined.specs.Blank.{blank}
-use Rattle.joined.specs.Queued.{waitsOn, mayWait, lives, due, scanned, idle, queuedIn}
-use Rattle.joined.specs.AtRest.{Waits, Queued}
-use Rattle.joined.proofs.LinkedExact.{leaves-left}
+use Rattle.resting.specs.Blank.{blank}
+use Rattle.resting.specs.Queued.{waitsOn, mayWait, lives, due, scanned, idle, queuedIn}
+use Rattle.resting.specs.AtRest.{Waits, Queued}
+use Rattle.resting.proofs.LinkedExact.{leaves-left}
 
 -- ---- an array of zeros
 pub blank-length : length blank ≡ mostNodes

@@ -13,10 +13,10 @@ use Rattle.lists.specs.Sum.{All, occ}
 use Rattle.lists.specs.Walk.{slots}
 use Rattle.lists.specs.Each.{keep}
 use Rattle.counts.specs.Counts.{countedIn, slotRoom}
-use Rattle.joined.specs.Linked.{isLive}
-use Rattle.joined.specs.Depends.{rank}
-use Rattle.joined.specs.Named.{namesOf}
-use Rattle.joined.specs.Queued.{mostDepth}
+use Rattle.resting.specs.Linked.{isLive}
+use Rattle.resting.specs.Depends.{rank}
+use Rattle.resting.specs.Named.{namesOf}
+use Rattle.resting.specs.Queued.{mostDepth}
 
 -- ---- the lists that the tables hold: from a head word along a field, at most as many as there are slots
 abbrev pub listFrom : List ℕ → ℕ → ℕ → List ℕ

@@ -7,11 +7,11 @@ use lib.IntN.{ℤ}
 use Rattle.primitive.specs.Words.{FLAGS, KIND, GONE, DEPS, SUBS, READS, node}
 use Rattle.lists.specs.Each.{both, every}
 use Rattle.counts.specs.Counts.{countedIn}
-use Rattle.joined.specs.Linked.{linkedIn}
-use Rattle.joined.specs.Depends.{dependsAt, ownedAt}
-use Rattle.joined.specs.Named.{readsFrom, namedIn}
-use Rattle.joined.specs.Flagged.{flagsOn}
-use Rattle.joined.specs.Queued.{queuedIn}
+use Rattle.resting.specs.Linked.{linkedIn}
+use Rattle.resting.specs.Depends.{dependsAt, ownedAt}
+use Rattle.resting.specs.Named.{readsFrom, namedIn}
+use Rattle.resting.specs.Flagged.{flagsOn}
+use Rattle.resting.specs.Queued.{queuedIn}
 
 -- node n has no more read links than read cells, and flags that its kind may have
 unfoldable pub flaggedAt : List ℕ → List ℕ → ℕ → Bool

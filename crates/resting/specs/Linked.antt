@@ -8,7 +8,7 @@ use Rattle.primitive.specs.Words.{DEP, SUB, PREV-SUB, NEXT-SUB, PREV-DEP, NEXT-
 use Rattle.lists.specs.Each.{both}
 use Rattle.lists.specs.Walk.{run, runs, leaves, onLeft}
 use Rattle.lists.specs.declared.Rest.{Rest}
-use Rattle.joined.specs.declared.linked.Side.{Side}
+use Rattle.resting.specs.declared.linked.Side.{Side}
 use Rattle.counts.specs.Counts.{countedIn, slotRoom}
 
 -- a node's two lists, by their fields

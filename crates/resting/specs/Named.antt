@@ -12,8 +12,8 @@ use Rattle.lists.specs.Sum.{bit}
 use Rattle.lists.specs.Each.{pick, along, tally}
 use Rattle.lists.specs.Once.{stamp}
 use Rattle.counts.specs.Counts.{countedIn, slotRoom}
-use Rattle.joined.specs.Blank.{blank}
-use Rattle.joined.specs.Depends.{readsKind}
+use Rattle.resting.specs.Blank.{blank}
+use Rattle.resting.specs.Depends.{readsKind}
 
 -- a read link goes to a signal or computed
 unfoldable pub isReadLink : List ℕ → List ℕ → ℕ → ℕ

@@ -12,7 +12,7 @@ use Rattle.lists.specs.Each.{both, pick}
 use Rattle.lists.specs.Once.{scan}
 use Rattle.lists.specs.declared.Rest.{Rest}
 use Rattle.counts.specs.Counts.{countedIn}
-use Rattle.joined.specs.Blank.{blank}
+use Rattle.resting.specs.Blank.{blank}
 
 -- a batch may nest this deep
 abbrev pub mostDepth : ℕ

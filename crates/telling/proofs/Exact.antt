@@ -16,12 +16,12 @@ use Rattle.formula.proofs.Ends.{all-named, read-cells}
 use Rattle.formula.proofs.Exact.{legal-sound, legal-complete}
 use Rattle.formula.proofs.Written.{size-some, length-written}
 use Rattle.counts.specs.Counts.{nodeRoom, slotRoom, cellRoom, carryIn, reserveIn}
-use Rattle.described.specs.Formulas.{lowerRank, ownCells, allLower, readsLower, formulaIn}
+use Rattle.telling.specs.Formulas.{lowerRank, ownCells, allLower, readsLower, formulaIn}
 use Rattle.counts.specs.Depths.{mostOwnerDepth, depthUnder}
-use Rattle.described.specs.Levels.{levelKept}
-use Rattle.described.specs.Nodes.{row, standsAlone, signalIn, computedIn, scopeIn, effectIn, nodeIn, nodesIn}
-use Rattle.described.specs.Rules.{AllLower, HasFormula, SignalRow, ComputedRow, ScopeRow, NodeRow, a-signal, a-computed, an-effect, a-scope, Described}
-use Rattle.described.specs.Whole.{usedCells, describedIn}
+use Rattle.telling.specs.Levels.{levelKept}
+use Rattle.telling.specs.Nodes.{row, standsAlone, signalIn, computedIn, scopeIn, effectIn, nodeIn, nodesIn}
+use Rattle.telling.specs.Rules.{AllLower, HasFormula, SignalRow, ComputedRow, ScopeRow, NodeRow, a-signal, a-computed, an-effect, a-scope, Described}
+use Rattle.telling.specs.Whole.{usedCells, describedIn}
 
 both : (b c : Bool) → (b && c) ≡ true → (b ≡ true) × (c ≡ true)
 both true c e = (refl, e)

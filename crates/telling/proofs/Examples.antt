@@ -11,11 +11,11 @@ use Rattle.formula.specs.Cells.{readOf, bareOf, codes, cellOf, arityOf, nameOf,
 use Rattle.formula.specs.Legal.{readKind, readableIn, knownIn, takesIn, inTurn, oneAt, legalIn}
 use Rattle.formula.specs.Names.{named, allNamed, readCells, tallest, tallestIn, heightIn}
 use Rattle.counts.specs.Counts.{withinMost, wholeRows, withinAll, carryIn, countedIn, total, reserveOf, reserveIn}
-use Rattle.described.specs.Formulas.{lowerRank, ownCells, allLower, readsLower, formulaIn}
+use Rattle.telling.specs.Formulas.{lowerRank, ownCells, allLower, readsLower, formulaIn}
 use Rattle.counts.specs.Depths.{depthUnder}
-use Rattle.described.specs.Levels.{levelKept}
-use Rattle.described.specs.Nodes.{standsAlone, signalIn, computedIn, scopeIn, effectIn, nodeIn, nodesIn}
-use Rattle.described.specs.Whole.{describedIn}
+use Rattle.telling.specs.Levels.{levelKept}
+use Rattle.telling.specs.Nodes.{standsAlone, signalIn, computedIn, scopeIn, effectIn, nodeIn, nodesIn}
+use Rattle.telling.specs.Whole.{describedIn}
 
 -- a row of the node table, by the words that are tested here
 rowOf : ℕ → ℕ → ℕ → ℕ → ℕ → ℕ → ℕ → List ℕ

@@ -6,9 +6,9 @@ use lib.Dec.{eqb, leb}
 use lib.IntN.{ℤ}
 use Rattle.primitive.specs.Words.{KIND, GONE, OWNER, LEVEL, SIGNAL, COMPUTED, EFFECT, SCOPE, node}
 use Rattle.formula.specs.Names.{mostHeight, heightIn}
-use Rattle.described.specs.Formulas.{ownCells, formulaIn}
+use Rattle.telling.specs.Formulas.{ownCells, formulaIn}
 use Rattle.counts.specs.Depths.{mostOwnerDepth, depthUnder}
-use Rattle.described.specs.Levels.{levelKept}
+use Rattle.telling.specs.Levels.{levelKept}
 
 -- the first where it is so, else the second
 abbrev pub row : Bool → Bool → Bool → Bool

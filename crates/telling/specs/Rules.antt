@@ -10,9 +10,9 @@ use Rattle.formula.specs.Trees.{Tree, size, names}
 use Rattle.formula.specs.Legal.{FormulaOf}
 use Rattle.formula.specs.Names.{mostHeight, tallest}
 use Rattle.counts.specs.Counts.{nodeRoom, slotRoom, cellRoom, carryIn, reserveIn}
-use Rattle.described.specs.Formulas.{rankOf, ownCells}
+use Rattle.telling.specs.Formulas.{rankOf, ownCells}
 use Rattle.counts.specs.Depths.{mostOwnerDepth, depthUnder}
-use Rattle.described.specs.Whole.{usedCells}
+use Rattle.telling.specs.Whole.{usedCells}
 
 abbrev pub AllLower : List ℕ → ℕ → Type 0
 AllLower [] n = Unit {0}

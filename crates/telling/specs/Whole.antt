@@ -7,7 +7,7 @@ use lib.IntN.{ℤ}
 use lib.ListN.{getD, take}
 use Rattle.primitive.specs.Words.{COUNT, USED}
 use Rattle.counts.specs.Counts.{nodeRoom, slotRoom, cellRoom, carryIn, reserveIn}
-use Rattle.described.specs.Nodes.{nodesIn}
+use Rattle.telling.specs.Nodes.{nodesIn}
 
 -- the words of the cells in use
 abbrev pub usedCells : List ℕ → List ℤ → List ℤ

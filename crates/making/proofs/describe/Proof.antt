@@ -1,9 +1,9 @@
--- `operations::making::describe` meets its contract. Assumes nothing.
-use Rattle.operations.specs.Making.{described, setAll}
+-- `making::describe` meets its contract. Assumes nothing.
+use Rattle.making.specs.Making.{described, setAll}
 use native.Mathlib.Omega.{arith}
 use borrow.Author.Needs.{needs}
-use Rattle.operations.proofs.making.describe.Statement.{statement}
-use Rattle.operations.proofs.making.describe.Tie as tie
+use Rattle.making.proofs.describe.Statement.{statement}
+use Rattle.making.proofs.describe.Tie as tie
 
 at-requires : tie.Need-at-requires
 at-requires c κs = search needs

@@ -1,8 +1,8 @@
--- `operations::making::give` meets its contract. Assumes nothing.
-use Rattle.operations.specs.Making.{valued}
+-- `making::give` meets its contract. Assumes nothing.
+use Rattle.making.specs.Making.{valued}
 use borrow.Author.Needs.{needs}
-use Rattle.operations.proofs.making.give.Statement.{statement}
-use Rattle.operations.proofs.making.give.Tie as tie
+use Rattle.making.proofs.give.Statement.{statement}
+use Rattle.making.proofs.give.Tie as tie
 
 keep-current-requires : tie.Need-keep-current-requires
 keep-current-requires c κs = search needs

@@ -1,9 +1,9 @@
--- `operations::making::has_room` meets its contract. Assumes nothing.
+-- `making::has_room` meets its contract. Assumes nothing.
 use native.Mathlib.Omega.{arith}
-use Rattle.operations.proofs.MakingLaws.{no-node, no-cells, some-cells}
+use Rattle.making.proofs.MakingLaws.{no-node, no-cells, some-cells}
 use borrow.Author.Needs.{needs}
-use Rattle.operations.proofs.making.has_room.Statement.{statement}
-use Rattle.operations.proofs.making.has_room.Tie as tie
+use Rattle.making.proofs.has_room.Statement.{statement}
+use Rattle.making.proofs.has_room.Tie as tie
 
 at-requires : tie.Need-at-requires
 at-requires c κs = search needs

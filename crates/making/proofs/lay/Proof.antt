@@ -1,4 +1,4 @@
--- `operations::making::lay` meets its contract. Assumes nothing.
+-- `making::lay` meets its contract. Assumes nothing.
 use mathlib.Core.Path.{_≡_, refl, sym, _∙_}
 use Prim.Native.Nat.{_+_, _-_}
 use lib.IntN.{pos}
@@ -7,10 +7,10 @@ use borrow.Author.Needs.{needs}
 use mir.Syntax.{w64}
 use mir.Val.{toZ, ofZ}
 use mir.Facts.{toZ-ofZ}
-use Rattle.operations.specs.Making.{laid}
-use Rattle.operations.proofs.MakingLaws.{lay-step, lay-start, lay-done}
-use Rattle.operations.proofs.making.lay.Statement.{statement}
-use Rattle.operations.proofs.making.lay.Tie as tie
+use Rattle.making.specs.Making.{laid}
+use Rattle.making.proofs.MakingLaws.{lay-step, lay-start, lay-done}
+use Rattle.making.proofs.lay.Statement.{statement}
+use Rattle.making.proofs.lay.Tie as tie
 
 abbrev Inv-loop : tie.InvT-loop
 Inv-loop cells₀ at formula i₀ cells i = record { long : length cells ≡ length cells₀; same : laid cells (at + i) (drop i formula) ≡ laid cells₀ at formula }

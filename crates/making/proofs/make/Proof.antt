@@ -1,12 +1,12 @@
--- `operations::making::make` meets its contract. Assumes nothing.
+-- `making::make` meets its contract. Assumes nothing.
 use mathlib.Core.Path.{sym, _∙_}
 use Prim.Native.Nat.{_/_}
 use native.Mathlib.Omega.{arith}
 use lib.ListN.{length}
-use Rattle.operations.proofs.MakingLaws.{room-node, room-cells, make-room, make-full}
+use Rattle.making.proofs.MakingLaws.{room-node, room-cells, make-room, make-full}
 use borrow.Author.Needs.{needs}
-use Rattle.operations.proofs.making.make.Statement.{statement}
-use Rattle.operations.proofs.making.make.Tie as tie
+use Rattle.making.proofs.make.Statement.{statement}
+use Rattle.making.proofs.make.Tie as tie
 
 at-requires : tie.Need-at-requires
 at-requires c κs = search needs

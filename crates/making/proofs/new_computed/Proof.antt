@@ -1,8 +1,8 @@
--- `operations::making::new_computed` meets its contract. Assumes nothing.
-use Rattle.operations.specs.Making.{newComputed}
+-- `making::new_computed` meets its contract. Assumes nothing.
+use Rattle.making.specs.Making.{newComputed}
 use borrow.Author.Needs.{needs}
-use Rattle.operations.proofs.making.new_computed.Statement.{statement}
-use Rattle.operations.proofs.making.new_computed.Tie as tie
+use Rattle.making.proofs.new_computed.Statement.{statement}
+use Rattle.making.proofs.new_computed.Tie as tie
 
 height-requires : tie.Need-height-requires
 height-requires c κs = search needs

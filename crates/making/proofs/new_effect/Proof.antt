@@ -1,8 +1,8 @@
--- `operations::making::new_effect` meets its contract. Assumes nothing.
-use Rattle.operations.specs.Making.{newEffect}
+-- `making::new_effect` meets its contract. Assumes nothing.
+use Rattle.making.specs.Making.{newEffect}
 use borrow.Author.Needs.{needs}
-use Rattle.operations.proofs.making.new_effect.Statement.{statement}
-use Rattle.operations.proofs.making.new_effect.Tie as tie
+use Rattle.making.proofs.new_effect.Statement.{statement}
+use Rattle.making.proofs.new_effect.Tie as tie
 
 depth-under-requires : tie.Need-depth-under-requires
 depth-under-requires c κs = search needs

@@ -1,8 +1,8 @@
--- `operations::making::new_scope` meets its contract. Assumes nothing.
-use Rattle.operations.specs.Making.{newScope}
+-- `making::new_scope` meets its contract. Assumes nothing.
+use Rattle.making.specs.Making.{newScope}
 use borrow.Author.Needs.{needs}
-use Rattle.operations.proofs.making.new_scope.Statement.{statement}
-use Rattle.operations.proofs.making.new_scope.Tie as tie
+use Rattle.making.proofs.new_scope.Statement.{statement}
+use Rattle.making.proofs.new_scope.Tie as tie
 
 depth-under-requires : tie.Need-depth-under-requires
 depth-under-requires c κs = search needs

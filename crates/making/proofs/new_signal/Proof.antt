@@ -1,8 +1,8 @@
--- `operations::making::new_signal` meets its contract. Assumes nothing.
-use Rattle.operations.specs.Making.{newSignal}
+-- `making::new_signal` meets its contract. Assumes nothing.
+use Rattle.making.specs.Making.{newSignal}
 use borrow.Author.Needs.{needs}
-use Rattle.operations.proofs.making.new_signal.Statement.{statement}
-use Rattle.operations.proofs.making.new_signal.Tie as tie
+use Rattle.making.proofs.new_signal.Statement.{statement}
+use Rattle.making.proofs.new_signal.Tie as tie
 
 slice-aggregate-make : tie.Need-slice-aggregate-make
 slice-aggregate-make c = search needs

@@ -1,8 +1,8 @@
--- `operations::making::own` meets its contract. Assumes nothing.
-use Rattle.operations.specs.Making.{owned}
+-- `making::own` meets its contract. Assumes nothing.
+use Rattle.making.specs.Making.{owned}
 use borrow.Author.Needs.{needs}
-use Rattle.operations.proofs.making.own.Statement.{statement}
-use Rattle.operations.proofs.making.own.Tie as tie
+use Rattle.making.proofs.own.Statement.{statement}
+use Rattle.making.proofs.own.Tie as tie
 
 open-requires : tie.Need-open-requires
 open-requires c κs = search needs

@@ -1,10 +1,10 @@
--- `operations::making::set_word` meets its contract. Assumes nothing.
+-- `making::set_word` meets its contract. Assumes nothing.
 use mathlib.Core.Path.{sym}
 use native.Mathlib.Omega.{arith}
 use lib.Seq.{set-out}
 use borrow.Author.Needs.{needs}
-use Rattle.operations.proofs.making.set_word.Statement.{statement}
-use Rattle.operations.proofs.making.set_word.Tie as tie
+use Rattle.making.proofs.set_word.Statement.{statement}
+use Rattle.making.proofs.set_word.Tie as tie
 
 sub-if2 : tie.Need-sub-if2
 sub-if2 c = search needs
