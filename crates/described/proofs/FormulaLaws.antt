@@ -14,7 +14,7 @@ use Rattle.formula.specs.declared.cells.Number.the-variants.{Is, None}
 use Rattle.formula.specs.Cells.{nameOf, cellAt, orElse}
 use Rattle.formula.specs.Names.{named, allNamed}
 use Rattle.formula.proofs.ScanLaws.{named-turns, named-done}
-use Rattle.described.specs.Formulas.{lowerRank, ownCells, allLower, readsLower, cellLower}
+use Rattle.telling.specs.Formulas.{lowerRank, ownCells, allLower, readsLower, cellLower}
 
 module _ (nodes : List ℕ) (used : List ℤ) (n : ℕ) {start count : ℕ} (s : start ≡ field 16 nodes n 7) (k : count ≡ field 16 nodes n 8) where
   pub own-out : length used / 2 < start + count → [] ≡ ownCells nodes used n

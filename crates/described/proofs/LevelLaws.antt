@@ -6,7 +6,7 @@ use Prim.Native.Nat.{ℕ, suc, _<_, min}
 use native.Mathlib.Omega.{arith}
 use lib.Dec.{leb}
 use borrow.Author.Tests.{leb-true, leb-false, lt-leb}
-use Rattle.described.specs.Levels.{levelKept}
+use Rattle.telling.specs.Levels.{levelKept}
 
 module _ (nodes : List ℕ) where
   -- a level that stops above the limit is kept exactly where the whole one is

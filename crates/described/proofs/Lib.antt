@@ -1,5 +1,3 @@
 pub mod LevelLaws
 pub mod FormulaLaws
 pub mod NodeLaws
-pub mod Examples
-pub mod Exact

@@ -5,7 +5,7 @@ use mathlib.Core.List.{List}
 use Prim.Native.Nat.{ℕ, zero, suc, _-_, _<_, _≤_}
 use native.Mathlib.Omega.{arith}
 use lib.IntN.{ℤ}
-use Rattle.described.specs.Nodes.{nodeIn, nodesIn}
+use Rattle.telling.specs.Nodes.{nodeIn, nodesIn}
 
 module _ (nodes : List ℕ) (used : List ℤ) where
   pub every-done : (n : ℕ) → n ≤ 0 → nodesIn nodes used n ≡ true

@@ -12,7 +12,7 @@ use primitive::rows::READS;
 use primitive::rows::START;
 use primitive::words;
 ghost use mathlib.Core.Path.{_≡_};
-ghost use Rattle.described.specs.Formulas.{ownCells, cellLower, readsLower, formulaIn};
+ghost use Rattle.telling.specs.Formulas.{ownCells, cellLower, readsLower, formulaIn};
 
 // The cells of node n's formula; none where they do not lie inside the cells that are lent.
 pub fn own_cells<'a>(nodes: &[u64], cells: &'a [i64], n: u64) -> &'a [i64]

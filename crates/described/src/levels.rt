@@ -3,7 +3,7 @@ use primitive::rows::LEVEL;
 use primitive::rows::NODE;
 use primitive::words;
 ghost use mathlib.Core.Path.{_≡_};
-ghost use Rattle.described.specs.Levels.{levelKept};
+ghost use Rattle.telling.specs.Levels.{levelKept};
 
 // Whether node n's level is the one given, and at most the greatest allowed.
 pub fn level_kept(nodes: &[u64], n: u64, level: u64, most: u64) -> bool

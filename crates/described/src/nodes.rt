@@ -17,7 +17,7 @@ use primitive::rows::SCOPE;
 use primitive::rows::SIGNAL;
 use primitive::words;
 ghost use mathlib.Core.Path.{_≡_};
-ghost use Rattle.described.specs.Nodes.{standsAlone, signalIn, computedIn, scopeIn, effectIn, nodeIn, nodesIn};
+ghost use Rattle.telling.specs.Nodes.{standsAlone, signalIn, computedIn, scopeIn, effectIn, nodeIn, nodesIn};
 
 // Signals and computeds are never gone and have no owner.
 fn stands_alone(nodes: &[u64], n: u64) -> bool

@@ -9,7 +9,7 @@ use primitive::rows::COUNT;
 use primitive::rows::USED;
 use primitive::words;
 ghost use mathlib.Core.Path.{_≡_};
-ghost use Rattle.described.specs.Whole.{describedIn};
+ghost use Rattle.telling.specs.Whole.{describedIn};
 
 // The nodes are lent the cells in use only, so that no other cell decides.
 pub fn described(nodes: &[u64], links: &[u64], values: &[i64], cells: &[i64]) -> bool

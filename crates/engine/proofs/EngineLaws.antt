@@ -12,8 +12,8 @@ use Rattle.formula.specs.declared.cells.Number.{Number}
 use Rattle.formula.specs.declared.cells.Number.the-variants.{Is, None}
 use Rattle.formula.specs.Cells.{naturalOf}
 use Rattle.formula.proofs.CellLaws.{natural-pos, natural-neg}
-use Rattle.described.specs.Whole.{describedIn}
-use Rattle.joined.specs.Joined.{joinedIn}
+use Rattle.telling.specs.Whole.{describedIn}
+use Rattle.resting.specs.Joined.{joinedIn}
 use Rattle.reads.specs.Tables.{State, state, Got}
 use Rattle.reads.specs.Read.{readOf}
 use Rattle.meaning.specs.Words.{commandOf, nodeOf}
@@ -24,7 +24,7 @@ use Rattle.refusals.specs.Sight.{sightIn}
 use Rattle.refusals.specs.Commands.{brief}
 use Rattle.refusals.specs.Asked.{formulaIn}
 use Rattle.operations.specs.Log.{Ran, ranTo, numberWord}
-use Rattle.operations.specs.Making.{Made}
+use Rattle.making.specs.Making.{Made}
 use Rattle.engine.specs.Tables.{wellFormedIn}
 use Rattle.engine.specs.Perform.{Done, done, ownerWord, numbered, performed}
 use Rattle.engine.specs.Command.{Answered, answered, accepted, refused, refusalIn, answer, commandIn}

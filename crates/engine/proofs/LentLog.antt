@@ -18,7 +18,7 @@ use Rattle.operations.specs.Log.{Ran, ranTo, rowed, rowsIn, fitsRow}
 use Rattle.operations.specs.Runs.{mustRun, ran, ranNext, flushedFrom, cleared, flushed}
 use Rattle.operations.specs.Batches.{depthOf, flushedAt, endedBatch}
 use Rattle.operations.specs.Writes.{announced, written, added}
-use Rattle.operations.specs.Making.{newEffect}
+use Rattle.making.specs.Making.{newEffect}
 use Rattle.refusals.specs.declared.commands.Command.{Command}
 use Rattle.refusals.specs.declared.commands.Command.the-variants as command
 use Rattle.engine.specs.Perform.{numbered, performed}

@@ -14,7 +14,7 @@ use Rattle.refusals.specs.declared.commands.Command.the-variants.{Signal, Compu
 use Rattle.operations.specs.Log.{Ran, ranTo, numberWord}
 use Rattle.operations.specs.Batches.{started, endedBatch}
 use Rattle.operations.specs.Writes.{written, added}
-use Rattle.operations.specs.Making.{Made, newSignal, newComputed, newScope, Started, newEffect}
+use Rattle.making.specs.Making.{Made, newSignal, newComputed, newScope, Started, newEffect}
 
 -- the value returned, the tables and the log after it
 pub record Done : Type 0 where

@@ -3,8 +3,8 @@ use mathlib.Core.Bool.{Bool, _&&_}
 use mathlib.Core.List.{List}
 use Prim.Native.Nat.{ℕ}
 use lib.IntN.{ℤ}
-use Rattle.described.specs.Whole.{describedIn}
-use Rattle.joined.specs.Joined.{joinedIn}
+use Rattle.telling.specs.Whole.{describedIn}
+use Rattle.resting.specs.Joined.{joinedIn}
 
 -- what the tables say of nodes, and how these are linked, flagged and queued
 unfoldable pub wellFormedIn : List ℕ → List ℕ → List ℤ → List ℤ → Bool

@@ -2,13 +2,13 @@
 use formula::cells::Number;
 use formula::cells::natural;
 use links::unlink::dispose;
+use making::new_computed;
+use making::new_effect;
+use making::new_scope;
+use making::new_signal;
 use operations::batches::end_batch;
 use operations::batches::start_batch;
 use operations::log::number_word;
-use operations::making::new_computed;
-use operations::making::new_effect;
-use operations::making::new_scope;
-use operations::making::new_signal;
 use operations::writes::add;
 use operations::writes::set;
 use primitive::values::Value;

@@ -2,9 +2,3 @@ mod TurnLaws
 mod WalkTurns
 mod QueueTurns
 mod StampTurns
-pub mod LinkedExact
-pub mod QueuedExact
-pub mod NodesExact
-pub mod NamedExact
-pub mod JoinedExact
-mod Examples

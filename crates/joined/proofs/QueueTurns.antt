@@ -11,7 +11,7 @@ use Rattle.primitive.specs.Queue.{count, entryAt, entries, queueOf}
 use Rattle.lists.specs.Once.{spend, scan}
 use Rattle.lists.specs.declared.Rest.{Rest}
 use Rattle.lists.specs.declared.Rest.the-variants.{Left, Bad}
-use Rattle.joined.specs.Queued.{mayWait, lives, scanned}
+use Rattle.resting.specs.Queued.{mayWait, lives, scanned}
 
 -- what is left of the queue from entry i on, r entries
 abbrev pub left-of : List ℕ → List ℕ → ℕ → ℕ → ℕ → Rest

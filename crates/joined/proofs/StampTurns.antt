@@ -16,9 +16,9 @@ use Rattle.formula.proofs.CellLaws.{cell-out}
 use Rattle.formula.specs.Legal.{readableIn}
 use Rattle.lists.specs.Once.{stamp}
 use Rattle.lists.proofs.SumLaws.{bit-le}
-use Rattle.joined.specs.Depends.{readsKind}
+use Rattle.resting.specs.Depends.{readsKind}
 use Rattle.counts.specs.Counts.{countedIn, slotRoom}
-use Rattle.joined.specs.Named.{isReadLink, namesOf, stampCell, stampCells, stampNode, linksStamped, namedFrom}
+use Rattle.resting.specs.Named.{isReadLink, namesOf, stampCell, stampCells, stampNode, linksStamped, namedFrom}
 
 pub read-most : (t l : List ℕ) (x r : ℕ) → r ≡ isReadLink t l x → r ≤ 1
 unfolding isReadLink

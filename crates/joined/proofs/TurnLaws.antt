@@ -11,7 +11,7 @@ use Rattle.primitive.specs.declared.slots.Slot.{Slot}
 use Rattle.primitive.specs.declared.slots.Slot.the-variants.{At, Nothing}
 use Rattle.primitive.proofs.SlotLaws.{word-slot}
 use Rattle.primitive.specs.Rows.{field}
-use Rattle.joined.specs.Depends.{ownerIs, onlyTo, ownedOn}
+use Rattle.resting.specs.Depends.{ownerIs, onlyTo, ownedOn}
 use Rattle.lists.specs.Once.{spend}
 use Rattle.lists.proofs.SumLaws.{clash}
 use Rattle.lists.specs.declared.Rest.the-variants.{Left}

@@ -14,8 +14,8 @@ use Rattle.lists.specs.Each.{along}
 use Rattle.lists.specs.declared.Rest.the-variants.{Left, Bad}
 use Rattle.lists.proofs.WalkLaws.{run-done, run-wrong, run-out, run-bad, run-more, run-blind}
 use Rattle.lists.proofs.EachLaws.{along-end, along-bad, along-more}
-use Rattle.joined.specs.declared.linked.Side.{Side}
-use Rattle.joined.specs.Linked.{fits, spare, walk, walks, frees}
+use Rattle.resting.specs.declared.linked.Side.{Side}
+use Rattle.resting.specs.Linked.{fits, spare, walk, walks, frees}
 use Rattle.joined.proofs.TurnLaws.{at-slot, at-nothing}
 
 module _ (l : List ℕ) (s : Side) (n tail b p w : ℕ) where

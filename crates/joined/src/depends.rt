@@ -19,7 +19,7 @@ use primitive::slots;
 use primitive::slots::Slot;
 use primitive::words;
 ghost use mathlib.Core.Path.{_≡_};
-ghost use Rattle.joined.specs.Depends.{readsKind, ownsKind, ownerIs, mayDepend, dependsOn, dependsAt, ownedOn, ownedAt};
+ghost use Rattle.resting.specs.Depends.{readsKind, ownsKind, ownerIs, mayDepend, dependsOn, dependsAt, ownedOn, ownedAt};
 
 // Kinds that read: they have a formula.
 pub fn reads_kind(kind: u64) -> bool

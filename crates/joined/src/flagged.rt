@@ -4,7 +4,7 @@ use primitive::rows::EFFECT;
 use primitive::rows::SCOPE;
 use primitive::rows::SIGNAL;
 ghost use mathlib.Core.Path.{_≡_};
-ghost use Rattle.joined.specs.Flagged.{signalFlags, computedFlags, effectFlags, goneFlags, flagsOn};
+ghost use Rattle.resting.specs.Flagged.{signalFlags, computedFlags, effectFlags, goneFlags, flagsOn};
 
 fn signal_flags(flags: u64) -> bool
     ensures { λ r. ⌜ r ≡ signalFlags flags ⌝ }

@@ -16,7 +16,7 @@ use primitive::rows::READS;
 use primitive::rows::SUBS;
 use primitive::words;
 ghost use mathlib.Core.Path.{_≡_};
-ghost use Rattle.joined.specs.Joined.{flaggedAt, restsAt, restIn, joinedIn};
+ghost use Rattle.resting.specs.Joined.{flaggedAt, restsAt, restIn, joinedIn};
 
 // Whether node n has no more read links than read cells, and flags that its kind may have at rest.
 fn flagged_at(nodes: &[u64], links: &[u64], n: u64) -> bool

@@ -16,17 +16,9 @@ use primitive::rows::SUB;
 use primitive::rows::SUBS;
 use primitive::rows::SUBS_TAIL;
 use primitive::words;
+use resting::linked::Side;
 ghost use mathlib.Core.Path.{_≡_};
-ghost use Rattle.joined.specs.Linked.{isLive, fits, spare, walk, walks, frees, linkedIn};
-
-// One of a node's two lists: the fields of a slot that name the node and the two neighbours, and the node's fields for head and tail.
-pub struct Side {
-    pub own: u64,
-    pub prev: u64,
-    pub next: u64,
-    pub head: u64,
-    pub tail: u64,
-}
+ghost use Rattle.resting.specs.Linked.{isLive, fits, spare, walk, walks, frees, linkedIn};
 
 fn is_live(links: &[u64], x: u64) -> bool
     ensures { λ r. ⌜ r ≡ isLive (now (links .entry)) x ⌝ }

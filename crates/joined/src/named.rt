@@ -18,7 +18,7 @@ use primitive::slots::Slot;
 use primitive::words;
 ghost use mathlib.Core.Path.{_≡_};
 ghost use Rattle.counts.specs.Counts.{countedIn};
-ghost use Rattle.joined.specs.Named.{isReadLink, readsFrom, stampCell, stampCells, stampNode, stamped, linksStamped, namedFrom, namedIn};
+ghost use Rattle.resting.specs.Named.{isReadLink, readsFrom, stampCell, stampCells, stampNode, stamped, linksStamped, namedFrom, namedIn};
 
 // Words of a test's own memory: one for each node that tables may have.
 pub const SEEN: usize = 1024;

@@ -18,7 +18,7 @@ use Rattle.meaning.specs.Words.{Command, makeSignal, makeComputed, makeE
 use Rattle.meaning.specs.Evaluations.{inUpdate, countFirst, countFresh, countEvaluation, countRerun, countFlushOn, countFlushAt, countStore, countNewEffect, countEnd, countPerform, reevaluations}
 use Rattle.meaning.specs.Commands.{perform}
 use Rattle.meaning.proofs.Laws.{branch, branches, provided-by}
-use Rattle.meaning.proofs.Rings.{Drops, Counts, dispose-ring, first-count, computed-count, fresh-count, settle-count, evaluate-count, rerun-count, flush-count}
+use Rattle.meaning.proofs.Rings.{link-ways, Drops, Counts, dispose-ring, first-count, computed-count, fresh-count, settle-count, evaluate-count, rerun-count, flush-count}
 
 -- raised so many times
 unfoldable pub raisedBy : ℕ → ℕ → ℕ
@@ -51,11 +51,7 @@ insert-cycle s d u v [] = refl
 insert-cycle s d u v (l ∷ ls) = refl
 
 link-cycle : (s : St) (d u v : ℕ) → link s d u v .cycle ≡ s .cycle
-unfolding link
-link-cycle s d u v =
-    let P : St → Type 0 = λ t. t .cycle ≡ s .cycle in
-    branch P (goesTo s (lastOf (s .done u)) d) (λ a. refl)
-    (λ a. branch P (goesTo s (headOf (s .rest u)) d) (λ b. renew-cycle s u v (s .rest u)) (λ b. branch P (isFrom s (lastOf (s .subs d)) u v) (λ c. refl) (λ c. insert-cycle s d u v (s .free))))
+link-cycle s d u v = link-ways (λ t. t .cycle ≡ s .cycle) s d u v (λ a. refl) (λ b. renew-cycle s u v (s .rest u)) (λ c. refl) (insert-cycle s d u v (s .free))
 
 drops : Drops (Raised 0)
 unfolding raisedBy cut

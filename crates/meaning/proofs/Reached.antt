@@ -15,6 +15,33 @@ use Rattle.meaning.specs.WellFormed.{In}
 use Rattle.meaning.specs.Reach.{Reached, near, far}
 use Rattle.meaning.proofs.Laws.{clash, either, or-true, or-one, or-none, or-left, or-right, branch, up-other, up-by, in-left, in-right, in-cases}
 
+-- ---- one turn of the walk, by its five ways
+ways : (P : Marks → Type 0) (a b c d : Bool) (v w x y z : Marks) → (a ≡ true → P v) → (a ≡ false → b ≡ true → P w) → (a ≡ false → b ≡ false → c ≡ true → d ≡ true → P x) → (a ≡ false → b ≡ false → c ≡ true → d ≡ false → P y)
+    → (a ≡ false → b ≡ false → c ≡ false → P z)
+    → P (elim a [ true ↦ v | false ↦ elim b [ true ↦ w | false ↦ elim c [ true ↦ elim d [ true ↦ x | false ↦ y ] | false ↦ z ] ] ])
+ways P true b c d v w x y z f g h i j = f refl
+ways P false true c d v w x y z f g h i j = g refl refl
+ways P false false true true v w x y z f g h i j = h refl refl refl refl
+ways P false false true false v w x y z f g h i j = i refl refl refl refl
+ways P false false false d v w x y z f g h i j = j refl refl refl
+
+module _ (P : Marks → Type 0) (s : St) (k : ℕ) (m : Marks) (l : ℕ) (w : List ℕ) (st : List (List ℕ)) where
+  abbrev there : Named
+  there = m .fl (s .sub l)
+
+  abbrev below : List ℕ
+  below = s .subs (s .sub l)
+
+  abbrev told : Marks
+  told = mark s m (s .sub l)
+
+  pub turn : (recursing there ≡ true → P (halt m true)) → (recursing there ≡ false → unclean there ≡ true → P (prop s k m w st))
+      → (recursing there ≡ false → unclean there ≡ false → there .mutable ≡ true → several below ≡ true → P (prop s k (halt told (stackFull s st)) below (w ∷ st)))
+      → (recursing there ≡ false → unclean there ≡ false → there .mutable ≡ true → several below ≡ false → P (prop s k told (below ++ w) st))
+      → (recursing there ≡ false → unclean there ≡ false → there .mutable ≡ false → P (prop s k told w st)) → P (prop s (suc k) m (l ∷ w) st)
+  unfolding prop
+  turn = ways P (recursing there) (unclean there) (there .mutable) (several below) (halt m true) (prop s k m w st) (prop s k (halt told (stackFull s st)) below (w ∷ st)) (prop s k told (below ++ w) st) (prop s k told w st)
+
 -- ---- marking changes WATCHING, and PENDING of the node marked
 abbrev tone : Named → Named
 tone f = withWatching f false
@@ -159,16 +186,16 @@ module _ (s : St) (d : ℕ) where
   walk (suc k) m [] [] g = λ z. g
   walk (suc k) m [] (w ∷ st) g = walk k m w st g
   walk (suc k) m (l ∷ w) st g =
-      let u = s .sub l in
-      let h : Going s d (m .fl) (l ∷ all w st) = subst (Going s d (m .fl)) (all-append (l ∷ []) w st) g in
-      branch Ends (recursing (m .fl u)) (λ e z. clash (or-true (m .stuck)) z)
-      (λ e. branch Ends (unclean (m .fl u)) (λ a. walk k m w st (skip (m .fl) l (all w st) h a))
-      (λ a. branch Ends (m .fl u .mutable)
-      (λ b. let mu : s .fl u .mutable ≡ true = sym (h .mut u) ∙ b in
-      let next : Going s d (mark s m u .fl) (s .subs u ++ all w st) = step m l (all w st) (s .subs u) h a (λ x i. (mu, i)) (λ x c i. i) in
-      branch Ends (several (s .subs u)) (λ c. walk k (halt (mark s m u) (stackFull s st)) (s .subs u) (w ∷ st) next)
-      (λ c. walk k (mark s m u) (s .subs u ++ w) st (subst (Going s d (mark s m u .fl)) (sym (all-append (s .subs u) w st)) next)))
-      (λ b. walk k (mark s m u) w st (step m l (all w st) [] h a (λ x i. absurd i) (λ x c i. clash c (sym (h .mut u) ∙ b))))))
+      turn Ends s k m l w st (λ e z. clash (or-true (m .stuck)) z) (λ e a. walk k m w st (skip (m .fl) l (all w st) h a))
+      (λ e a b c. walk k (halt (mark s m (s .sub l)) (stackFull s st)) (s .subs (s .sub l)) (w ∷ st) (next a b))
+      (λ e a b c. walk k (mark s m (s .sub l)) (s .subs (s .sub l) ++ w) st (subst (Going s d (mark s m (s .sub l) .fl)) (sym (all-append (s .subs (s .sub l)) w st)) (next a b)))
+      (λ e a b. walk k (mark s m (s .sub l)) w st (step m l (all w st) [] h a (λ x i. absurd i) (λ x c i. clash c (sym (h .mut (s .sub l)) ∙ b))))
+    where
+      h : Going s d (m .fl) (l ∷ all w st)
+      h = subst (Going s d (m .fl)) (all-append (l ∷ []) w st) g
+
+      next : unclean (m .fl (s .sub l)) ≡ false → m .fl (s .sub l) .mutable ≡ true → Going s d (mark s m (s .sub l) .fl) (s .subs (s .sub l) ++ all w st)
+      next a b = step m l (all w st) (s .subs (s .sub l)) h a (λ x i. (sym (h .mut (s .sub l)) ∙ b, i)) (λ x c i. i)
 
   begin : Going s d (s .fl) (s .subs d)
   begin = record {

@@ -17,6 +17,7 @@ use Rattle.meaning.specs.Reads.{Ans, Out, evalBy, spread, settleW, readW
 use Rattle.meaning.specs.Reserve.{reserveOf, liveLinks}
 use Rattle.meaning.specs.WellFormed.{In, readLinks}
 use Rattle.meaning.proofs.Laws.{clash, false≢true, either, branch, provided-same, or-false, up-same, up-other, in-left, in-right, in-cases}
+use Rattle.meaning.proofs.Rings.{link-ways}
 use Rattle.meaning.proofs.Members.{nil-none, reads-few, reads-append, reads-agree}
 use Rattle.meaning.proofs.Still.{Given}
 use Rattle.meaning.proofs.Inside.{Set, also, Static, Goes, Inside, reserved, widen, let-out}
@@ -265,11 +266,8 @@ module _ (g : Given) (st : Static g) where
             in-x n (inr q) = inl (subst X (sym q) xu)
 
         pub link-during : During X u s₀ (suc i) (link s m u v)
-        unfolding link
         link-during =
-            branch (During X u s₀ (suc i)) (goesTo s (lastOf (s .done u)) m) (λ e. later i (suc i) s (omega arith) d)
-            (λ e. branch (During X u s₀ (suc i)) (goesTo s (headOf (s .rest u)) m) (λ q. renewed i s v d (s .rest u) refl q)
-            (λ q. branch (During X u s₀ (suc i)) (isFrom s (lastOf (s .subs m)) u v) (λ z. later i (suc i) s (omega arith) d) (λ z. inserted (s .free) refl)))
+            link-ways (During X u s₀ (suc i)) s m u v (λ e. later i (suc i) s (omega arith) d) (λ q. renewed i s v d (s .rest u) refl q) (λ z. later i (suc i) s (omega arith) d) (inserted (s .free) refl)
 
       -- ---- a read of m: it is brought up to date, and linked
       pub m-settled : (k : ℕ) (fr : St → ℕ → Ans) → Freshens k fr → u ≤ k → (i : ℕ) (s : St) → During X u s₀ i s → i < reads-of u → Settled X s m (settleW fr s m)

@@ -12,12 +12,24 @@ use Rattle.primitive.specs.Values.{isZero}
 use Rattle.formula.specs.Trees.{Tree, constant, read, two, choose}
 use Rattle.meaning.specs.State.{St, Kind, signal, computed, effect, scope, Row, bare, hasValue, f0, f1, f2, f5, f6, f17, withPending, raised, deps}
 use Rattle.meaning.specs.Setters.{withCycle, withLog, withQueue, setFl, setSto, setGone}
-use Rattle.meaning.specs.Links.{stop, provided, isNil, headOf, several, each, link, cut, rewind, purgeW, lastLink, disposeW, unwatchedW, unlinkN, budget, purge, dispose}
+use Rattle.meaning.specs.Links.{stop, provided, isNil, headOf, lastOf, goesTo, isFrom, several, each, renew, insert, link, cut, rewind, purgeW, lastLink, disposeW, unwatchedW, unlinkN, budget, purge, dispose}
 use Rattle.meaning.specs.Marks.{isEffect, shallow}
 use Rattle.meaning.specs.Reads.{Ans, Out, ans, evalBy, spread, settleW, readW, firstW, updComputed, updSignal, updW, sameSlots, steady, checkOn, checkW, pendingW, freshW, fresh, settle, check, evaluate}
 use Rattle.meaning.specs.Engine.{logged, rerun, run, flushOn}
 use Rattle.meaning.specs.Evaluations.{inFormula, inCheckOn, inCheck, inUpdate, inPending, withFirst, countFirst, countFreshW, countFresh, countRead, countEvaluation, countRerun, countRun, countFlushOn}
 use Rattle.meaning.proofs.Laws.{branch, branches, provided-by}
+
+-- ---- a link, by its four ways
+four {κ} : (P : St → Type κ) (a b c : Bool) (w x y z : St) → (a ≡ true → P w) → (b ≡ true → P x) → (c ≡ true → P y) → P z → P (elim a [ true ↦ w | false ↦ elim b [ true ↦ x | false ↦ elim c [ true ↦ y | false ↦ z ] ] ])
+four P true b c w x y z f g h i = f refl
+four P false true c w x y z f g h i = g refl
+four P false false true w x y z f g h i = h refl
+four P false false false w x y z f g h i = i
+
+pub link-ways {κ} : (P : St → Type κ) (s : St) (d u v : ℕ) → (goesTo s (lastOf (s .done u)) d ≡ true → P s) → (goesTo s (headOf (s .rest u)) d ≡ true → P (renew s u v (s .rest u)))
+    → (isFrom s (lastOf (s .subs d)) u v ≡ true → P s) → P (insert s d u v (s .free)) → P (link s d u v)
+unfolding link
+link-ways P s d u v = four P (goesTo s (lastOf (s .done u)) d) (goesTo s (headOf (s .rest u)) d) (isFrom s (lastOf (s .subs d)) u v) s (renew s u v (s .rest u)) s (insert s d u v (s .free))
 
 -- ---- the first ring
 pub record Drops (R : St → St → Type 0) : Type 0 where
@@ -166,20 +178,26 @@ module _ (all : Bool) (R : ℕ → St → St → Type 0) (r : Counts all R) wher
     unfolding steady
     steady-count m was s t d p = tested m (sameSlots was (t .subs d) && not (isNil was)) s t p
 
+    -- the answer yes of the dependency d, from t where it is up to date; else the links after it
+    asked-count : (m : ℕ) (yes : Bool) (u : ℕ) (ls : List ℕ) (s t : St) (d : ℕ) → R m s t → R (inCheckOn fr c u t ls) t (checkOn fr u t ls .st)
+        → R (m + (elim yes [ true ↦ 0 | false ↦ inCheckOn fr c u t ls ])) s (elim yes as (λ (b : Bool). Ans) [ true ↦ ans (elim (several (t .subs d)) [ true ↦ shallow t d | false ↦ t ]) true | false ↦ checkOn fr u t ls ] .st)
+    asked-count m true u ls s t d p n = r .then m 0 s t _ p (branch (R 0 t) (several (t .subs d)) (λ h. r .shallows t d) (λ h. r .drops .same t))
+    asked-count m false u ls s t d p n = r .then m _ s t _ p n
+
+    -- nothing is asked of what is dirty, nor of a dependency that is not mutable
+    unless-count : (s : St) (dirty mutable : Bool) (m n : ℕ) (x y : Ans) → R m s (x .st) → R n s (y .st)
+        → R (elim dirty [ true ↦ 0 | false ↦ elim mutable [ true ↦ m | false ↦ n ] ]) s (elim dirty as (λ (b : Bool). Ans) [ true ↦ ans s true | false ↦ elim mutable [ true ↦ x | false ↦ y ] ] .st)
+    unless-count s true mutable m n x y p q = r .drops .same s
+    unless-count s false true m n x y p q = p
+    unless-count s false false m n x y p q = q
+
     pub checkOn-count : (u : ℕ) (ls : List ℕ) (s : St) → R (inCheckOn fr c u s ls) s (checkOn fr u s ls .st)
     unfolding checkOn inCheckOn
     checkOn-count u [] s = r .drops .same s
     checkOn-count u (l ∷ ls) s =
-        let d = s .dep l in
-        let a = fr s d in
-        let t = steady (s .subs d) (a .st) d in
-        let p : R (c s d) s t = steady-count (c s d) (s .subs d) s (a .st) d (frs s d) in
-        branches (λ (x : Ans) (m : ℕ). R m s (x .st)) (s .fl u .dirty) (λ e. r .drops .same s)
-        (λ e. branches (λ (x : Ans) (m : ℕ). R m s (x .st)) (s .fl d .mutable)
-        (λ f. branches (λ (x : Ans) (m : ℕ). R (c s d + m) s (x .st)) (a .yes)
-        (λ g. branch (λ (x : St). R (c s d + 0) s x) (several (t .subs d)) (λ h. r .then (c s d) 0 s t _ p (r .shallows t d)) (λ h. r .then (c s d) 0 s t t p (r .drops .same t)))
-        (λ g. r .then (c s d) (inCheckOn fr c u t ls) s t _ p (checkOn-count u ls t)))
-        (λ f. checkOn-count u ls s))
+        unless-count s (s .fl u .dirty) (s .fl (s .dep l) .mutable) _ _ _ _
+        (asked-count (c s (s .dep l)) (fr s (s .dep l) .yes) u ls s (steady (s .subs (s .dep l)) (fr s (s .dep l) .st) (s .dep l)) (s .dep l) (steady-count (c s (s .dep l)) (s .subs (s .dep l)) s (fr s (s .dep l) .st) (s .dep l) (frs s (s .dep l)))
+        (checkOn-count u ls (steady (s .subs (s .dep l)) (fr s (s .dep l) .st) (s .dep l)))) (checkOn-count u ls s)
 
     pub checkW-count : (s : St) (u : ℕ) → R (inCheck fr c s u) s (checkW fr s u .st)
     unfolding checkW inCheck inCheckOn

@@ -9,7 +9,7 @@ use Rattle.formula.specs.Trees.{Tree}
 use Rattle.meaning.specs.State.{St, Kind, Room, Row}
 use Rattle.meaning.specs.Links.{headOf, lastOf, goesTo, isFrom, renew, insert, link, cut}
 use Rattle.meaning.proofs.Laws.{branch, up-by}
-use Rattle.meaning.proofs.Rings.{Drops, Renews}
+use Rattle.meaning.proofs.Rings.{link-ways, Drops, Renews}
 
 -- what only the making of a node touches
 pub record Given : Type 0 where
@@ -64,11 +64,7 @@ insert-still s d u v [] = (refl, refl)
 insert-still s d u v (l ∷ ls) = (refl, refl)
 
 link-plain : (s : St) (d u v : ℕ) → Plain s (link s d u v)
-unfolding link
-link-plain s d u v =
-    branch (Plain s) (goesTo s (lastOf (s .done u)) d) (λ e. (refl, refl))
-    (λ e. branch (Plain s) (goesTo s (headOf (s .rest u)) d) (λ f. renew-still s u v (s .rest u))
-    (λ f. branch (Plain s) (isFrom s (lastOf (s .subs d)) u v) (λ g. (refl, refl)) (λ g. insert-still s d u v (s .free))))
+link-plain s d u v = link-ways (Plain s) s d u v (λ e. (refl, refl)) (λ f. renew-still s u v (s .rest u)) (λ g. (refl, refl)) (insert-still s d u v (s .free))
 
 pub link-still : (s : St) (d u v : ℕ) → Still s (link s d u v)
 link-still s d u v = plain s _ (link-plain s d u v)

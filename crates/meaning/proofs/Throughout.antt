@@ -17,6 +17,7 @@ use Rattle.meaning.specs.Reserve.{reserveOf, reserve, liveLinks}
 use Rattle.meaning.specs.WellFormed.{In, WellFormed}
 use Rattle.meaning.specs.Moments.{Held, held, Step, unlinks, links, marks-gone, others, Steps, here, later, Moment}
 use Rattle.meaning.proofs.Laws.{clash, either, branch, or-first, or-left, or-right, up-by, up-same}
+use Rattle.meaning.proofs.Rings.{link-ways}
 use Rattle.meaning.proofs.Members.{total-least, total-spare}
 use Rattle.meaning.proofs.Still.{given}
 use Rattle.meaning.proofs.Inside.{nobody, reserve-least, static, rest-inside}
@@ -111,11 +112,7 @@ insert-room s d u v (l ∷ ls) q = (
 )
 
 link-room : (s : St) (d u v : ℕ) → Keeps s (link s d u v)
-unfolding link
-link-room s d u v =
-    branch (Keeps s) (goesTo s (lastOf (s .done u)) d) (λ a. room-same s)
-    (λ a. branch (Keeps s) (goesTo s (headOf (s .rest u)) d) (λ b. renew-room s u v (s .rest u))
-    (λ b. branch (Keeps s) (isFrom s (lastOf (s .subs d)) u v) (λ c. room-same s) (λ c. insert-room s d u v (s .free) refl)))
+link-room s d u v = link-ways (Keeps s) s d u v (λ a. room-same s) (λ b. renew-room s u v (s .rest u)) (λ c. room-same s) (insert-room s d u v (s .free) refl)
 
 -- after it made one, they are at most the reserve of that moment
 inserted-few : (s : St) (d u v : ℕ) (ls : List ℕ) (n : ℕ) → s .free ≡ ls → Within n s → insert s d u v ls .stuck ≡ false → liveLinks (insert s d u v ls) ≤ reserve (insert s d u v ls)
@@ -128,17 +125,20 @@ inserted-few s d u v (l ∷ ls) n q h e =
     let x = insert-room s d u v (l ∷ ls) q .1 e n h .apart in
     omega arith
 
+-- no link more, so nothing to say
+none-more : (n : ℕ) {C : Type 0} → n < n → C
+none-more n h = absurd (omega arith)
+
 pub linked-few : (s : St) (d u v : ℕ) (n : ℕ) → Within n s → link s d u v .stuck ≡ false → liveLinks s < liveLinks (link s d u v) → liveLinks (link s d u v) ≤ reserve (link s d u v)
-unfolding link renew
-linked-few s d u v n h =
-    let P : St → Type 0 = λ t. t .stuck ≡ false → liveLinks s < liveLinks t → liveLinks t ≤ reserve t in
-    branch P (goesTo s (lastOf (s .done u)) d) (λ a e m. absurd (omega arith))
-    (λ a. branch P (goesTo s (headOf (s .rest u)) d) (λ b. renewed (s .rest u))
-    (λ b. branch P (isFrom s (lastOf (s .subs d)) u v) (λ c e m. absurd (omega arith)) (λ c e m. inserted-few s d u v (s .free) n refl h e)))
+unfolding renew
+linked-few s d u v n h = link-ways Few s d u v (λ a e m. none-more (liveLinks s) m) (λ b. renewed (s .rest u)) (λ c e m. none-more (liveLinks s) m) (λ e m. inserted-few s d u v (s .free) n refl h e)
   where
-    renewed : (ls : List ℕ) → renew s u v ls .stuck ≡ false → liveLinks s < liveLinks (renew s u v ls) → liveLinks (renew s u v ls) ≤ reserve (renew s u v ls)
+    Few : St → Type 0
+    Few t = t .stuck ≡ false → liveLinks s < liveLinks t → liveLinks t ≤ reserve t
+
+    renewed : (ls : List ℕ) → Few (renew s u v ls)
     renewed [] e m = clash refl e
-    renewed (l ∷ ls) e m = absurd (omega arith)
+    renewed (l ∷ ls) e m = none-more (liveLinks s) m
 
 -- the reserve falls where a node is marked gone
 gone-room : (s : St) (x : ℕ) → Keeps s (setGone (setFl (rewind s x) x f0) x true)

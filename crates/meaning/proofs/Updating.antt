@@ -282,73 +282,130 @@ module _ (g : Given) (st : Static g) where
       X-off : (m : ℕ) → X m → Low g (rank u) m → ⊥
       X-off m x p = let a = above m x (ap readable (p .0)) in let b = p .1 in omega arith
 
+      one : {b : ℕ} (j : ℕ) → In j (b ∷ []) → j ≡ b
+      one j (inl q) = q
+
+      -- the first link l that is not passed yet leads to a dependency that can be read: it is brought up to date. Each fact is a law of its own, so that no proof holds another's.
+      module _ (s : St) (i : Inside g X s) (o : Open g st X s) (l : ℕ) (lin : In l (deps s u)) where
+        abbrev d : ℕ
+        d = s .dep l
+
+        lv : (s .live l ≡ true) × (s .sub l ≡ u)
+        lv = i .lists .deps-live l u lin
+
+        hd : d < g .size
+        hd = i .lists .inside l (lv .0) .0
+
+        gd : Goes g d u
+        gd = subst (Goes g d) (lv .1) (i .goes l (lv .0))
+
+        has : In l (s .subs d)
+        has = i .lists .live-in-subs l (lv .0)
+
+        rd : Rests g s d
+        rd = i .rests d hd (apart d hd gd)
+
+        owns : s .fl d .mutable ≡ false → readable (g .kind d) ≡ false
+        owns m = either (readable (g .kind d)) (λ r. clash (read-moves g (s .queue) (s .dep) (s .sub) d _ _ _ _ _ rd l has r) m) (λ r. r)
+
+        reads : s .fl d .mutable ≡ true → readable (g .kind d) ≡ true
+        reads m = moves-read g (s .queue) (s .dep) (s .sub) d _ _ _ _ _ rd m
+
+        module _ (r : readable (g .kind d) ≡ true) where
+          abbrev t : St
+          t = fr s d .st
+
+          f : Freshened g st X s d (fr s d)
+          f = let lo = gd .lower r in frs X s d i o hd r (λ n x y. let z = above n x y in omega arith) (omega arith)
+
+          u-far : Low g (suc (rank d)) u → ⊥
+          u-far p = let lo = gd .lower r in let z = p .1 in omega arith
+
+          stays : steady (s .subs d) t d ≡ t
+          stays = steady-same (s .subs d) t d (f .frame .subs d (λ z. omega arith)) (λ z. nil-none (s .subs d) l z has)
+
+          wider : Frame g (Low g (rank u)) (rank u) s t
+          wider = let lo = gd .lower r in frame-wider g (Low g (suc (rank d))) (Low g (rank u)) d u s t (λ n p. let z = p .1 in (p .0, omega arith)) (omega arith) (f .frame)
+
+          opened : Open g st X t
+          opened = open-frame g st X (Low g (rank u)) u s t i (f .inside) wider X-off o
+
+          told : fr s d .yes ≡ true → Checked X s u (ans (elim (several (t .subs d)) [ true ↦ shallow t d | false ↦ t ]) true)
+          told y =
+              branch (λ (x : St). Checked X s u (ans x true)) (several (t .subs d))
+              (λ z. record {
+                inside = shallow-inside g X t d (f .inside);
+                frame = shallow-frame g X (Low g (rank u)) u u s t d i (f .inside) wider (omega arith) (gd .lower r) r (f .changed y);
+                answer = λ w. false≢true (sym w);
+              })
+              (λ z. record { inside = f .inside; frame = wider; answer = λ w. false≢true (sym w) })
+
+          deps-same : deps t u ≡ deps s u
+          deps-same = let w = f .frame .lists u u-far in ap₂ (λ (x z : List ℕ). x ++ z) (w .0) (w .1)
+
+          dep-same : (j : ℕ) → In j (deps s u) → t .dep j ≡ s .dep j
+          dep-same j z = let w = i .lists .deps-live j u z in f .frame .links j (w .0) (λ p. u-far (subst (Low g (suc (rank d))) (w .1) p)) .1
+
+          held : (j : ℕ) → In j (deps s u) → s .fl (s .dep j) ≡ f1 → t .fl (s .dep j) ≡ f1
+          held j z c = let w = i .lists .deps-live j u z in f .frame .held j (w .0) (λ p. u-far (subst (Low g (suc (rank d))) (w .1) p)) c
+
+          -- what was passed stays clean, and so is l
+          passes : (ls passed : List ℕ) → deps s u ≡ passed ++ (l ∷ ls) → ((j : ℕ) → In j passed → readable (g .kind (s .dep j)) ≡ true → s .fl (s .dep j) ≡ f1)
+              → (j : ℕ) → In j (passed ++ l ∷ []) → readable (g .kind (t .dep j)) ≡ true → t .fl (t .dep j) ≡ f1
+          passes ls passed e pass j z c =
+              in-cases j passed (l ∷ []) z
+              (λ w. before (subst (In j) (sym e) (in-left j passed (l ∷ ls) w)) w)
+              (λ w. subst (λ (b : ℕ). t .fl b ≡ f1) (sym (ap (t .dep) (one j w) ∙ dep-same l lin)) (f .clean))
+            where
+              before : In j (deps s u) → In j passed → t .fl (t .dep j) ≡ f1
+              before v w = subst (λ (b : ℕ). t .fl b ≡ f1) (sym (dep-same j v)) (held j v (pass j w (subst (λ (b : ℕ). readable (g .kind b) ≡ true) (dep-same j v) c)))
+
+          -- DIRTY came by a later link
+          later : (ls passed : List ℕ) → deps s u ≡ passed ++ (l ∷ ls) → ((j : ℕ) → In j passed → readable (g .kind (s .dep j)) ≡ true → s .fl (s .dep j) ≡ f1)
+              → s .fl u .dirty ≡ false → t .fl u .dirty ≡ true → ls ≡ [] → ⊥
+          later ls passed e pass q soil z = by (f .frame .soiled u u-far (λ w. gd .of-signal w) q soil)
+            where
+              by : Soiled g d s u → ⊥
+              by w =
+                  in-cases (w .link) passed (l ∷ ls) (subst (In (w .link)) e (subst (λ (b : ℕ). In (w .link) (deps s b)) (w .to) (i .lists .live-in-deps (w .link) (w .live))))
+                  (λ a. w .unclean (pass (w .link) a (w .reads)))
+                  (λ a. last a)
+                where
+                  last : In (w .link) (l ∷ ls) → ⊥
+                  last (inl b) = let c = w .low in let v = ap (s .dep) b in omega arith
+                  last (inr b) = nil-none ls (w .link) z b
+
       checkOn-inside : (ls passed : List ℕ) (s : St) → Inside g X s → Open g st X s → deps s u ≡ passed ++ ls
           → ((l : ℕ) → In l passed → readable (g .kind (s .dep l)) ≡ true → s .fl (s .dep l) ≡ f1) → (s .fl u .dirty ≡ true → ls ≡ [] → ⊥) → Checked X s u (checkOn fr u s ls)
       unfolding checkOn
       checkOn-inside [] passed s i o e pass dl = record { inside = i; frame = frame-same g (Low g (rank u)) u s; answer = λ z. either (s .fl u .dirty) (λ q. absurd (dl q refl)) (λ q. q) }
       checkOn-inside (l ∷ ls) passed s i o e pass dl =
-          let lin : In l (deps s u) = subst (In l) (sym e) (in-right l passed (l ∷ ls) (inl refl)) in
-          let lv = i .lists .deps-live l u lin in
-          let d = s .dep l in
-          let hd : d < g .size = i .lists .inside l (lv .0) .0 in
-          let gd : Goes g d u = subst (Goes g d) (lv .1) (i .goes l (lv .0)) in
-          let d-off = apart d hd gd in
-          let rd = i .rests d hd d-off in
-          let has = i .lists .live-in-subs l (lv .0) in
-          let next : deps s u ≡ (passed ++ l ∷ []) ++ ls = e ∙ sym (append-assoc passed (l ∷ []) ls) in
           branch (Checked X s u) (s .fl u .dirty) (λ q. record { inside = i; frame = frame-same g (Low g (rank u)) u s; answer = λ z. false≢true (sym z) })
-          (λ q. branch (Checked X s u) (s .fl d .mutable)
-          (λ m. let r : readable (g .kind d) ≡ true = moves-read g (s .queue) (s .dep) (s .sub) d _ _ _ _ _ rd m in
-          let lo = gd .lower r in
-          let a = fr s d in
-          let f = frs X s d i o hd r (λ n x y. let z = above n x y in omega arith) (omega arith) in
-          let t = a .st in
-          let u-far : Low g (suc (rank d)) u → ⊥ = λ p. let z = p .1 in omega arith in
-          let st-same : steady (s .subs d) t d ≡ t = steady-same (s .subs d) t d (f .frame .subs d (λ z. omega arith)) (λ z. nil-none (s .subs d) l z has) in
-          let wide : Frame g (Low g (rank u)) (rank u) s t = frame-wider g (Low g (suc (rank d))) (Low g (rank u)) d u s t (λ n p. let z = p .1 in (p .0, omega arith)) (omega arith) (f .frame) in
-          subst (λ (x : St). Checked X s u (elim (a .yes) [ true ↦ ans (elim (several (x .subs d)) [ true ↦ shallow x d | false ↦ x ]) true | false ↦ checkOn fr u x ls ])) (sym st-same)
-          (branch (Checked X s u) (a .yes)
-          (λ y. branch (λ (x : St). Checked X s u (ans x true)) (several (t .subs d))
-          (λ z. record { inside = shallow-inside g X t d (f .inside); frame = shallow-frame g X (Low g (rank u)) u u s t d i (f .inside) wide (omega arith) lo r (f .changed y); answer = λ w. false≢true (sym w) })
-          (λ z. record { inside = f .inside; frame = wide; answer = λ w. false≢true (sym w) }))
-          (λ y. let lists = f .frame .lists u u-far in
-          let deps-same : deps t u ≡ deps s u = ap₂ (λ (x z : List ℕ). x ++ z) (lists .0) (lists .1) in
-          let held : (j : ℕ) → In j (deps s u) → s .fl (s .dep j) ≡ f1 → (t .dep j ≡ s .dep j) × (t .fl (s .dep j) ≡ f1) =
-          λ j z c. let w = i .lists .deps-live j u z in let off : Low g (suc (rank d)) (s .sub j) → ⊥ = λ p. u-far (subst (Low g (suc (rank d))) (w .1) p) in (f .frame .links j (w .0) off .1, f .frame .held j (w .0) off c) in
-          let dep-l : t .dep l ≡ d = f .frame .links l (lv .0) (λ p. u-far (subst (Low g (suc (rank d))) (lv .1) p)) .1 in
-          let n = checkOn-inside ls (passed ++ l ∷ []) t (f .inside) (open-frame g st X (Low g (rank u)) u s t i (f .inside) wide X-off o) (deps-same ∙ next)
-          (λ j z c. in-cases j passed (l ∷ []) z
-          (λ w. let v : In j (deps s u) = subst (In j) (sym e) (in-left j passed (l ∷ ls) w) in
-          let x = i .lists .deps-live j u v in
-          let dj : t .dep j ≡ s .dep j = f .frame .links j (x .0) (λ p. u-far (subst (Low g (suc (rank d))) (x .1) p)) .1 in
-          let y = held j v (pass j w (subst (λ (b : ℕ). readable (g .kind b) ≡ true) dj c)) in
-          subst (λ (b : ℕ). t .fl b ≡ f1) (sym dj) (y .1))
-          (λ w. subst (λ (b : ℕ). t .fl b ≡ f1) (sym (ap (t .dep) (one j w) ∙ dep-l)) (f .clean)))
-          (λ soil z. absurd (later s d l ls passed lv q e z pass (f .frame .soiled u u-far (λ w. gd .of-signal w) q soil) i)) in
-          record {
-            inside = n .inside;
-            frame = frame-then g (Low g (rank u)) u s t _ (i .lists) (f .inside .lists) wide (n .frame);
-            answer = n .answer;
-          })))
-          (λ m. let own : readable (g .kind d) ≡ false = either (readable (g .kind d)) (λ r. clash (read-moves g (s .queue) (s .dep) (s .sub) d _ _ _ _ _ rd l has r) m) (λ r. r) in
-          checkOn-inside ls (passed ++ l ∷ []) s i o next
-          (λ j z c. in-cases j passed (l ∷ []) z (λ w. pass j w c) (λ w. clash (subst (λ (b : ℕ). readable (g .kind (s .dep b)) ≡ true) (one j w) c) own))
-          (λ soil z. clash soil q)))
+          (λ q. branch (Checked X s u) (s .fl (s .dep l) .mutable)
+          (λ m. asks (reads s i o l lin m) (checkOn-inside ls (passed ++ l ∷ []) (fr s (s .dep l) .st) (f s i o l lin (reads s i o l lin m) .inside) (opened s i o l lin (reads s i o l lin m))
+          (deps-same s i o l lin (reads s i o l lin m) ∙ next) (passes s i o l lin (reads s i o l lin m) ls passed e pass) (λ soil z. later s i o l lin (reads s i o l lin m) ls passed e pass q soil z)))
+          (λ m. checkOn-inside ls (passed ++ l ∷ []) s i o next (skips (owns s i o l lin m)) (λ soil z. clash soil q)))
         where
-          one : {b : ℕ} (j : ℕ) → In j (b ∷ []) → j ≡ b
-          one j (inl q) = q
+          lin : In l (deps s u)
+          lin = subst (In l) (sym e) (in-right l passed (l ∷ ls) (inl refl))
 
-          -- DIRTY came by a later link
-          later : (s : St) (d l : ℕ) (ls passed : List ℕ) → (s .live l ≡ true) × (s .sub l ≡ u) → s .fl u .dirty ≡ false → deps s u ≡ passed ++ (l ∷ ls) → ls ≡ []
-              → ((j : ℕ) → In j passed → readable (g .kind (s .dep j)) ≡ true → s .fl (s .dep j) ≡ f1) → Soiled g (s .dep l) s u → Inside g X s → ⊥
-          later s d l ls passed lv q e z pass w i =
-              in-cases (w .link) passed (l ∷ ls) (subst (In (w .link)) e (subst (λ (b : ℕ). In (w .link) (deps s b)) (w .to) (i .lists .live-in-deps (w .link) (w .live))))
-              (λ a. w .unclean (pass (w .link) a (w .reads)))
-              (λ a. last a)
-            where
-              last : In (w .link) (l ∷ ls) → ⊥
-              last (inl b) = let c = w .low in let v = ap (s .dep) b in omega arith
-              last (inr b) = nil-none ls (w .link) z b
+          next : deps s u ≡ (passed ++ l ∷ []) ++ ls
+          next = e ∙ sym (append-assoc passed (l ∷ []) ls)
+
+          skips : readable (g .kind (s .dep l)) ≡ false → (j : ℕ) → In j (passed ++ l ∷ []) → readable (g .kind (s .dep j)) ≡ true → s .fl (s .dep j) ≡ f1
+          skips own j z c = in-cases j passed (l ∷ []) z (λ w. pass j w c) (λ w. clash (subst (λ (b : ℕ). readable (g .kind (s .dep b)) ≡ true) (one j w) c) own)
+
+          asks : readable (g .kind (s .dep l)) ≡ true → Checked X (fr s (s .dep l) .st) u (checkOn fr u (fr s (s .dep l) .st) ls) → Checked X s u
+              (let x = steady (s .subs (s .dep l)) (fr s (s .dep l) .st) (s .dep l) in
+              elim (fr s (s .dep l) .yes) [ true ↦ ans (elim (several (x .subs (s .dep l))) [ true ↦ shallow x (s .dep l) | false ↦ x ]) true | false ↦ checkOn fr u x ls ])
+          asks r n =
+              subst (λ (x : St). Checked X s u
+              (elim (fr s (s .dep l) .yes) [ true ↦ ans (elim (several (x .subs (s .dep l))) [ true ↦ shallow x (s .dep l) | false ↦ x ]) true | false ↦ checkOn fr u x ls ])) (sym (stays s i o l lin r))
+              (branch (Checked X s u) (fr s (s .dep l) .yes) (λ y. told s i o l lin r y) (λ y. record {
+                inside = n .inside;
+                frame = frame-then g (Low g (rank u)) u s (fr s (s .dep l) .st) _ (i .lists) (f s i o l lin r .inside .lists) (wider s i o l lin r) (n .frame);
+                answer = n .answer;
+              }))
 
       pub check-inside : (s : St) → Inside g X s → Open g st X s → (deps s u ≡ [] → ⊥) → Checked X s u (checkW fr s u)
       unfolding checkW

@@ -22,7 +22,7 @@ use Rattle.meaning.specs.WellFormed.{In}
 use Rattle.meaning.proofs.Laws.{clash, false≢true, either, branch, provided-so, or-false, or-last, up-same, in-cases}
 use Rattle.meaning.proofs.Members.{most-below, gather, gather-length, gather-in, gather-once, total-spare}
 use Rattle.meaning.proofs.Still.{Given}
-use Rattle.meaning.proofs.Reached.{mark-dirty, mark-here, mark-there}
+use Rattle.meaning.proofs.Reached.{turn, mark-dirty, mark-here, mark-there}
 use Rattle.meaning.proofs.Inside.{nobody, also, Static, Rests, Slots, Inside, widen, let-out, moves-read}
 use Rattle.meaning.proofs.Dropping.{aComputed, flags-inside}
 use Rattle.meaning.proofs.Frames.{others}
@@ -101,32 +101,50 @@ module _ (g : Given) (st : Static g) (s : St) where
   prop-inside (suc k) m [] [] i ok oks b c = record { inside = i; stuck = refl }
   prop-inside (suc k) m [] (w ∷ st′) i ok oks b c = prop-inside k m w st′ i (oks .0) (oks .1) (omega arith) (omega arith)
   prop-inside (suc k) m (l ∷ w) st′ i ok oks b c =
-      let u = s .sub l in
-      let lv = ok l (inl refl) in
-      let hu : u < g .size = i .lists .inside l (lv .0) .1 in
-      let r = i .rests u hu (λ z. z) in
+      turn (Kept m) s k m l w st′ (λ e. clash e (no-recursing g (withMarks s m) (s .sub l) r)) (λ e d. let wk = work-append (l ∷ []) w st′ in prop-inside k m w st′ i (λ x j. ok x (inr j)) oks (omega arith) c)
+      (λ e d mu sv.
       let wk = work-append (l ∷ []) w st′ in
-      branch (Kept m) (recursing (m .fl u)) (λ e. clash e (no-recursing g (withMarks s m) u r))
-      (λ e. branch (Kept m) (unclean (m .fl u)) (λ d. prop-inside k m w st′ i (λ x j. ok x (inr j)) oks (omega arith) c)
-      (λ d. let n = mark-kept m l i lv d in
-      let m′ = mark s m u in
-      let fc = falls s m u (g .size) cost hu d in
-      let fo = falls s m u (g .size) one hu d in
-      branch (Kept m) (m .fl u .mutable)
-      (λ mu. let ru = moves-read g (m .queue) (s .dep) (s .sub) u _ _ _ _ _ r mu in
-      let oku : (x : ℕ) → In x (s .subs u) → Ok x = λ x j. let y = i .lists .subs-live x u j in (y .0, ap (λ (z : ℕ). readable (g .kind z)) (y .1) ∙ ru) in
-      branch (Kept m) (several (s .subs u))
-      (λ sv. let some = some-several (s .subs u) sv in
-      let fit = st .nodes-fit in
-      let rm : s .room .nodes ≡ g .room .nodes = ap (λ (z : Given). z .room .nodes) (i .same) in
-      let low : stackFull s st′ ≡ false = lt-leb (s .room .nodes) (length st′) (omega arith) in
-      let h = halt m′ (stackFull s st′) in
-      let x = prop-inside k h (s .subs u) (w ∷ st′) (stuck-inside g nobody (withMarks s m′) (h .stuck) (n .inside)) oku (λ y j. ok y (inr j), oks) (omega arith) (omega arith) in
-      record { inside = x .inside; stuck = x .stuck ∙ ap (λ (z : Bool). m′ .stuck || z) low ∙ or-false (m′ .stuck) ∙ n .stuck })
-      (λ sv. let wa = work-append (s .subs u) w st′ in
-      let x = prop-inside k m′ (s .subs u ++ w) st′ (n .inside) (λ y j. in-cases y (s .subs u) w j (oku y) (λ z. ok y (inr z))) oks (omega arith) (omega arith) in
-      record { inside = x .inside; stuck = x .stuck ∙ n .stuck }))
-      (λ mu. let x = prop-inside k m′ w st′ (n .inside) (λ y j. ok y (inr j)) oks (omega arith) (omega arith) in record { inside = x .inside; stuck = x .stuck ∙ n .stuck })))
+      let fc = falls s m (s .sub l) (g .size) cost hu d in
+      let fo = falls s m (s .sub l) (g .size) one hu d in
+      let some = some-several (s .subs (s .sub l)) sv in
+      stops (low fo) (kept d)
+      (prop-inside k (halt (mark s m (s .sub l)) (stackFull s st′)) (s .subs (s .sub l)) (w ∷ st′) (stuck-inside g nobody (withMarks s (mark s m (s .sub l))) (halt (mark s m (s .sub l)) (stackFull s st′) .stuck) (kept d .inside)) (oku mu) (λ y j. ok y (inr j), oks)
+      (omega arith) (omega arith)))
+      (λ e d mu sv.
+      let wk = work-append (l ∷ []) w st′ in
+      let fc = falls s m (s .sub l) (g .size) cost hu d in
+      let fo = falls s m (s .sub l) (g .size) one hu d in
+      let wa = work-append (s .subs (s .sub l)) w st′ in
+      on (kept d) (prop-inside k (mark s m (s .sub l)) (s .subs (s .sub l) ++ w) st′ (kept d .inside) (λ y j. in-cases y (s .subs (s .sub l)) w j (oku mu y) (λ z. ok y (inr z))) oks (omega arith) (omega arith)))
+      (λ e d mu.
+      let wk = work-append (l ∷ []) w st′ in
+      let fc = falls s m (s .sub l) (g .size) cost hu d in
+      let fo = falls s m (s .sub l) (g .size) one hu d in
+      on (kept d) (prop-inside k (mark s m (s .sub l)) w st′ (kept d .inside) (λ y j. ok y (inr j)) oks (omega arith) (omega arith)))
+    where
+      hu : s .sub l < g .size
+      hu = i .lists .inside l (ok l (inl refl) .0) .1
+
+      r : Rests g (withMarks s m) (s .sub l)
+      r = i .rests (s .sub l) hu (λ z. z)
+
+      kept : unclean (m .fl (s .sub l)) ≡ false → Kept m (mark s m (s .sub l))
+      kept d = mark-kept m l i (ok l (inl refl)) d
+
+      oku : m .fl (s .sub l) .mutable ≡ true → (x : ℕ) → In x (s .subs (s .sub l)) → Ok x
+      oku mu x j = let y = i .lists .subs-live x (s .sub l) j in (y .0, ap (λ (z : ℕ). readable (g .kind z)) (y .1) ∙ moves-read g (m .queue) (s .dep) (s .sub) (s .sub l) _ _ _ _ _ r mu)
+
+      on : {t : Marks} → Kept m (mark s m (s .sub l)) → Kept (mark s m (s .sub l)) t → Kept m t
+      on n x = record { inside = x .inside; stuck = x .stuck ∙ n .stuck }
+
+      low : clean-sum (mark s m (s .sub l) .fl) one (g .size) + one (s .sub l) ≤ clean-sum (m .fl) one (g .size) → stackFull s st′ ≡ false
+      low fo =
+          let fit = st .nodes-fit in
+          let rm : s .room .nodes ≡ g .room .nodes = ap (λ (z : Given). z .room .nodes) (i .same) in
+          lt-leb (s .room .nodes) (length st′) (omega arith)
+
+      stops : {t : Marks} → stackFull s st′ ≡ false → Kept m (mark s m (s .sub l)) → Kept (halt (mark s m (s .sub l)) (stackFull s st′)) t → Kept m t
+      stops q n x = record { inside = x .inside; stuck = x .stuck ∙ ap (λ (z : Bool). mark s m (s .sub l) .stuck || z) q ∙ or-false (mark s m (s .sub l) .stuck) ∙ n .stuck }
 
   -- after k turns, whatever is left to do
   prop-turns : (k : ℕ) (m : Marks) (w : List ℕ) (st′ : List (List ℕ)) → Inside g nobody (withMarks s m) → ((l : ℕ) → In l w → Ok l) → AllOk st′ → Inside g nobody (withMarks s (prop s k m w st′))
@@ -135,22 +153,20 @@ module _ (g : Given) (st : Static g) (s : St) where
   prop-turns (suc k) m [] [] i ok oks = i
   prop-turns (suc k) m [] (w ∷ st′) i ok oks = prop-turns k m w st′ i (oks .0) (oks .1)
   prop-turns (suc k) m (l ∷ w) st′ i ok oks =
-      let u = s .sub l in
-      let P : Marks → Type 0 = λ x. Inside g nobody (withMarks s x) in
-      let lv = ok l (inl refl) in
-      let r = i .rests u (i .lists .inside l (lv .0) .1) (λ z. z) in
-      branch P (recursing (m .fl u)) (λ e. clash e (no-recursing g (withMarks s m) u r))
-      (λ e. branch P (unclean (m .fl u)) (λ d. prop-turns k m w st′ i (λ x j. ok x (inr j)) oks)
-      (λ d. let n = mark-kept m l i lv d in
-      let m′ = mark s m u in
-      branch P (m .fl u .mutable)
-      (λ mu. let ru = moves-read g (m .queue) (s .dep) (s .sub) u _ _ _ _ _ r mu in
-      let oku : (x : ℕ) → In x (s .subs u) → Ok x = λ x j. let y = i .lists .subs-live x u j in (y .0, ap (λ (z : ℕ). readable (g .kind z)) (y .1) ∙ ru) in
-      branch P (several (s .subs u))
-      (λ sv. let h = halt m′ (stackFull s st′) in
-      prop-turns k h (s .subs u) (w ∷ st′) (stuck-inside g nobody (withMarks s m′) (h .stuck) (n .inside)) oku (λ y j. ok y (inr j), oks))
-      (λ sv. prop-turns k m′ (s .subs u ++ w) st′ (n .inside) (λ y j. in-cases y (s .subs u) w j (oku y) (λ z. ok y (inr z))) oks))
-      (λ mu. prop-turns k m′ w st′ (n .inside) (λ y j. ok y (inr j)) oks)))
+      turn (λ x. Inside g nobody (withMarks s x)) s k m l w st′ (λ e. clash e (no-recursing g (withMarks s m) (s .sub l) r)) (λ e d. prop-turns k m w st′ i (λ x j. ok x (inr j)) oks)
+      (λ e d mu sv. prop-turns k (halt (mark s m (s .sub l)) (stackFull s st′)) (s .subs (s .sub l)) (w ∷ st′)
+      (stuck-inside g nobody (withMarks s (mark s m (s .sub l))) (halt (mark s m (s .sub l)) (stackFull s st′) .stuck) (kept d)) (oku mu) (λ y j. ok y (inr j), oks))
+      (λ e d mu sv. prop-turns k (mark s m (s .sub l)) (s .subs (s .sub l) ++ w) st′ (kept d) (λ y j. in-cases y (s .subs (s .sub l)) w j (oku mu y) (λ z. ok y (inr z))) oks)
+      (λ e d mu. prop-turns k (mark s m (s .sub l)) w st′ (kept d) (λ y j. ok y (inr j)) oks)
+    where
+      r : Rests g (withMarks s m) (s .sub l)
+      r = i .rests (s .sub l) (i .lists .inside l (ok l (inl refl) .0) .1) (λ z. z)
+
+      kept : unclean (m .fl (s .sub l)) ≡ false → Inside g nobody (withMarks s (mark s m (s .sub l)))
+      kept d = mark-kept m l i (ok l (inl refl)) d .inside
+
+      oku : m .fl (s .sub l) .mutable ≡ true → (x : ℕ) → In x (s .subs (s .sub l)) → Ok x
+      oku mu x j = let y = i .lists .subs-live x (s .sub l) j in (y .0, ap (λ (z : ℕ). readable (g .kind z)) (y .1) ∙ moves-read g (m .queue) (s .dep) (s .sub) (s .sub l) _ _ _ _ _ r mu)
 
   pub propagate-turns : (d : ℕ) → Inside g nobody s → readable (g .kind d) ≡ true → (k : ℕ) → Inside g nobody (withMarks s (prop s k (marksOf s) (s .subs d) []))
   propagate-turns d i r k = prop-turns k (marksOf s) (s .subs d) [] i (λ l j. let x = i .lists .subs-live l d j in (x .0, ap (λ (z : ℕ). readable (g .kind z)) (x .1) ∙ r)) tt

@@ -2,5 +2,4 @@ pub mod Log
 pub mod Runs
 pub mod Batches
 pub mod Writes
-pub mod Making
 pub mod Emptying

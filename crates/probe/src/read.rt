@@ -1,10 +1,10 @@
 // Words of a block, read from standard input: numbers with white space between.
 use libc::STDIN_FILENO;
+use spelling::numbers::Digits;
+use spelling::numbers::Spelled;
 use stream::Got;
 use stream::Window;
 use stream::next;
-use text::numbers::Digits;
-use text::numbers::Spelled;
 use text::numbers::number;
 
 // Where the window stands, and whether all that was read is numbers, and fits.

@@ -9,14 +9,14 @@ use lib.ListN.{length, take, drop, length-append}
 use lib.Seq.{take-append-seam}
 use Rattle.engine.specs.Command.{commandIn}
 use Rattle.engine.specs.Command.{Answered as Answer}
-use Rattle.text.specs.declared.lines.Found.{Found}
-use Rattle.text.specs.declared.lines.Found.the-variants.{Short, Unreadable, Pair}
-use Rattle.text.specs.Buffers.{Buffer, buffer, put}
-use Rattle.text.specs.Lines.{short, unreadable, pair, reading}
-use Rattle.text.specs.Pairs.{taken, held, pairIn}
-use Rattle.text.specs.Answers.{answer, unreadableAnswer}
-use Rattle.text.proofs.PairLaws.{found-short, found-unreadable, found-pair, held-pair}
-use Rattle.text.proofs.OutputLaws.{pair-behind}
+use Rattle.spelling.specs.declared.lines.Found.{Found}
+use Rattle.spelling.specs.declared.lines.Found.the-variants.{Short, Unreadable, Pair}
+use Rattle.spelling.specs.Buffers.{Buffer, buffer, put}
+use Rattle.spelling.specs.Lines.{short, unreadable, pair, reading}
+use Rattle.spelling.specs.Pairs.{taken, held, pairIn}
+use Rattle.spelling.specs.Answers.{answer, unreadableAnswer}
+use Rattle.spelling.proofs.PairLaws.{found-short, found-unreadable, found-pair, held-pair}
+use Rattle.spelling.proofs.OutputLaws.{pair-behind}
 use Rattle.script.specs.declared.turns.Turn.the-variants.{More, Answered, Ended}
 use Rattle.script.specs.Turns.{Tables, tables, stepped, turned, waiting, turnOn, turnIn}
 

@@ -7,17 +7,17 @@ use native.Mathlib.Omega.{arith}
 use lib.IntN.{ℤ, pos}
 use lib.ListN.{length, take, drop}
 use lib.Seq.{take-append-seam}
-use Rattle.text.specs.Buffers.{buffer, put}
-use Rattle.text.specs.Lines.{Reading, short, unreadable, pair, reading, endOf, firstOf, fromFirst}
-use Rattle.text.specs.Pairs.{held}
-use Rattle.text.specs.Answers.{answer, unreadableAnswer}
-use Rattle.text.specs.Output.{output}
-use Rattle.text.proofs.AnswerLaws.{length-answer}
-use Rattle.text.proofs.BufferLaws.{put-fits}
-use Rattle.text.proofs.PairLaws.{held-pair, held-short}
-use Rattle.text.proofs.Streams.{followed, reading-same, short-few}
-use Rattle.text.proofs.OutputLaws.{pair-behind, output-none, output-pair, output-unreadable, output-cut}
-use Rattle.text.proofs.Room.{held-all}
+use Rattle.spelling.specs.Buffers.{buffer, put}
+use Rattle.spelling.specs.Lines.{Reading, short, unreadable, pair, reading, endOf, firstOf, fromFirst}
+use Rattle.spelling.specs.Pairs.{held}
+use Rattle.spelling.specs.Answers.{answer, unreadableAnswer}
+use Rattle.spelling.specs.Output.{output}
+use Rattle.spelling.proofs.AnswerLaws.{length-answer}
+use Rattle.spelling.proofs.BufferLaws.{put-fits}
+use Rattle.spelling.proofs.PairLaws.{held-pair, held-short}
+use Rattle.spelling.proofs.Streams.{followed, reading-same, short-few}
+use Rattle.spelling.proofs.OutputLaws.{pair-behind, output-none, output-pair, output-unreadable, output-cut}
+use Rattle.spelling.proofs.Room.{held-all}
 use Rattle.script.specs.declared.turns.Turn.the-variants.{More, Answered, Ended}
 use Rattle.engine.specs.Command.{commandIn}
 use Rattle.engine.proofs.LentLog.{log-long}

@@ -5,11 +5,11 @@ use mathlib.Core.List.{List, [], _++_}
 use lib.IntN.{ℤ}
 use lib.ListN.{length, drop}
 use Rattle.engine.specs.Command.{Answered, commandIn}
-use Rattle.text.specs.Buffers.{buffer, put}
-use Rattle.text.specs.Lines.{Reading, short, unreadable, pair, reading}
-use Rattle.text.specs.Pairs.{held}
-use Rattle.text.specs.Answers.{answer, unreadableAnswer}
-use Rattle.text.specs.Output.{Stepped}
+use Rattle.spelling.specs.Buffers.{buffer, put}
+use Rattle.spelling.specs.Lines.{Reading, short, unreadable, pair, reading}
+use Rattle.spelling.specs.Pairs.{held}
+use Rattle.spelling.specs.Answers.{answer, unreadableAnswer}
+use Rattle.spelling.specs.Output.{Stepped}
 use Rattle.script.specs.declared.turns.Turn.{Turn}
 use Rattle.script.specs.declared.turns.Turn.the-variants as turn
 

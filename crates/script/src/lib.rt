@@ -4,9 +4,9 @@ pub mod turns;
 
 use crate::turns::Turn;
 use engine::command::command;
+use spelling::lines::Found;
 use text::answers::put_answer;
 use text::answers::put_unreadable;
-use text::lines::Found;
 use text::lines::pair;
 ghost use mathlib.Core.Path.{_≡_};
 ghost use Rattle.script.specs.Turns.{tables, turned, turnIn};

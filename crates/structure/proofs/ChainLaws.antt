@@ -9,8 +9,8 @@ use lib.ListN.{length}
 use Rattle.primitive.specs.Words.{NEXT-DEP, link}
 use Rattle.lists.specs.Walk.{slots}
 use Rattle.counts.specs.Counts.{slotRoom}
-use Rattle.joined.specs.Linked.{isLive}
-use Rattle.joined.specs.AtRest.{Listed, FreeList}
+use Rattle.resting.specs.Linked.{isLive}
+use Rattle.resting.specs.AtRest.{Listed, FreeList}
 use Rattle.meaning.specs.WellFormed.{In}
 use Rattle.structure.specs.Chains.{lastWord, Chain, Back}
 

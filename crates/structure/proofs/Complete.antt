@@ -19,11 +19,11 @@ use Rattle.lists.specs.Each.{keep}
 use Rattle.counts.specs.Counts.{countedIn, nodeRoom, slotRoom, cellRoom, reserveIn, total as totalIn, reserveOf as reserveAt}
 use Rattle.counts.specs.Depths.{depthUnder}
 use Rattle.counts.proofs.Capacities.{carries}
-use Rattle.described.specs.Rules.{AllLower, HasFormula, ScopeRow, NodeRow, a-signal, a-computed, an-effect, a-scope, Described}
-use Rattle.described.specs.Whole.{usedCells}
-use Rattle.joined.specs.Linked.{isLive as liveIn}
-use Rattle.joined.specs.Named.{namesOf}
-use Rattle.joined.specs.AtRest.{subsOf, depsOf, freeOf, readLinksOf, Listed, Linked, May, Owned, Waits, Queued, Flagged, signal-clean, signal-set, computed-never, computed-clean, computed-bare, computed-pending, computed-dirty, effect-watching, effect-queued, effect-pending, effect-dirty, gone-queued, gone-done, scope-still, Joined}
+use Rattle.telling.specs.Rules.{AllLower, HasFormula, ScopeRow, NodeRow, a-signal, a-computed, an-effect, a-scope, Described}
+use Rattle.telling.specs.Whole.{usedCells}
+use Rattle.resting.specs.Linked.{isLive as liveIn}
+use Rattle.resting.specs.Named.{namesOf}
+use Rattle.resting.specs.AtRest.{subsOf, depsOf, freeOf, readLinksOf, Listed, Linked, May, Owned, Waits, Queued, Flagged, signal-clean, signal-set, computed-never, computed-clean, computed-bare, computed-pending, computed-dirty, effect-watching, effect-queued, effect-pending, effect-dirty, gone-queued, gone-done, scope-still, Joined}
 use Rattle.links.specs.Free.{isLive}
 use Rattle.meaning.specs.State.{St, Kind, signal, computed, effect, scope, readable, deps, f0, f1, f2, f17, f32, f33, f48, f49}
 use Rattle.meaning.specs.Played.{byte}

@@ -17,7 +17,7 @@ use Rattle.links.specs.Ring.{mended, cutOut}
 use Rattle.links.specs.Table.{Tab, tab}
 use Rattle.links.proofs.FreeLaws.{released-live, released-freed, released-others, last-first, next-free}
 use Rattle.links.proofs.Kept.{untouched-kept}
-use Rattle.joined.specs.Linked.{dependencies, subscribers}
+use Rattle.resting.specs.Linked.{dependencies, subscribers}
 use Rattle.meaning.specs.State.{St, up, deps}
 use Rattle.meaning.specs.Links.{remove, cut}
 use Rattle.meaning.specs.WellFormed.{In, Once}

@@ -11,12 +11,12 @@ use lib.ListN.{length}
 use borrow.Author.Tests.{leb-true}
 use Rattle.counts.specs.Counts.{countedIn, mostNodes, reserveIn, liveEffectsIn, total as totalIn, reserveOf as reserveAt, effectOf as effectAt}
 use Rattle.counts.proofs.Capacities.{carried}
-use Rattle.described.specs.Rules.{Described}
-use Rattle.described.specs.Whole.{describedIn}
-use Rattle.described.proofs.Exact.{described-sound, described-complete}
-use Rattle.joined.specs.AtRest.{Joined}
-use Rattle.joined.specs.Joined.{joinedIn}
-use Rattle.joined.proofs.JoinedExact.{joined-sound, joined-complete}
+use Rattle.telling.specs.Rules.{Described}
+use Rattle.telling.specs.Whole.{describedIn}
+use Rattle.telling.proofs.Exact.{described-sound, described-complete}
+use Rattle.resting.specs.AtRest.{Joined}
+use Rattle.resting.specs.Joined.{joinedIn}
+use Rattle.resting.proofs.JoinedExact.{joined-sound, joined-complete}
 use Rattle.meaning.specs.State.{within, St}
 use Rattle.meaning.specs.Reserve.{reserve}
 use Rattle.meaning.specs.Refusals.{Sight, liveEffects, sightOf, refusal}

@@ -13,8 +13,8 @@ use Rattle.primitive.specs.Flags.{named}
 use Rattle.primitive.specs.Queue.{count as counted, entryAt, entries, queueOf}
 use Rattle.primitive.specs.Words.{COUNT, USED, DEPTH, QUEUE, FLAGS, KIND, GONE, START, CELLS, READS, OWNER, LEVEL, node}
 use Rattle.formula.specs.Trees.{Tree}
-use Rattle.described.specs.Formulas.{ownCells}
-use Rattle.described.specs.Whole.{usedCells}
+use Rattle.telling.specs.Formulas.{ownCells}
+use Rattle.telling.specs.Whole.{usedCells}
 use Rattle.reads.specs.Tables.{cycleOf}
 use Rattle.links.specs.Table.{Tab}
 use Rattle.links.proofs.Untouched.{Untouched}

@@ -17,8 +17,8 @@ use Rattle.formula.proofs.Ends.{all-named}
 use Rattle.counts.specs.Depths.{depthUnder}
 use Rattle.links.specs.Table.{tab}
 use Rattle.reads.specs.Tables.{State}
-use Rattle.operations.specs.declared.making.Sort.{Sort}
-use Rattle.operations.specs.Making.{Made, made, make, ownedBy, owned, sort, bits, ownedSort, newSignal, newComputed, newScope}
+use Rattle.making.specs.declared.Sort.{Sort}
+use Rattle.making.specs.Making.{Made, made, make, ownedBy, owned, sort, bits, ownedSort, newSignal, newComputed, newScope}
 use Rattle.operations.specs.Runs.{running}
 use Rattle.meaning.specs.State.{St, Kind, signal, computed, effect, scope, readable, f0, f1, f6, nothing}
 use Rattle.meaning.specs.Engine.{tallest as tallestOf, heightOf, depthUnder as depthUnderOf, node, owned as ownedL, newSignal as signalL, newComputed as computedL, newScope as scopeL}

@@ -15,7 +15,7 @@ use Rattle.reads.specs.Tables.{State, state}
 use Rattle.reads.specs.Read.{evaluatedFor}
 use Rattle.operations.specs.Log.{Ran, ranTo, rowed, rowsIn}
 use Rattle.operations.specs.Runs.{running, endedRun}
-use Rattle.operations.specs.Making.{Made, make, ownedSort, newEffect}
+use Rattle.making.specs.Making.{Made, make, ownedSort, newEffect}
 use Rattle.meaning.specs.State.{St, effect, Row, f2, f6, nothing}
 use Rattle.meaning.specs.Setters.{setFl}
 use Rattle.meaning.specs.Reads.{evalBy, readW, fresh, evaluate}

@@ -21,8 +21,8 @@ use Rattle.formula.proofs.Ends.{read-cells}
 use Rattle.lists.specs.Sum.{bit}
 use Rattle.refusals.specs.Sight.{kindOf}
 use Rattle.reads.specs.Tables.{State, state, setCurrent}
-use Rattle.operations.specs.declared.making.Sort.{Sort}
-use Rattle.operations.specs.Making.{Made, made, described, laid, valued, hasRoom, make}
+use Rattle.making.specs.declared.Sort.{Sort}
+use Rattle.making.specs.Making.{Made, made, described, laid, valued, hasRoom, make}
 use Rattle.meaning.specs.State.{St, Kind, signal, computed, effect, scope, deps, up}
 use Rattle.meaning.specs.Engine.{levelOf, cellsOf, node}
 use Rattle.meaning.specs.Played.{byte}

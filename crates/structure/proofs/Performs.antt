@@ -18,7 +18,7 @@ use Rattle.refusals.specs.Asked.{asked, fromOr, cellsFrom, formulaIn}
 use Rattle.reads.specs.Read.{readOf as readIn}
 use Rattle.refusals.proofs.CommandLaws.{told-is}
 use Rattle.operations.specs.Log.{ranTo, numberWord}
-use Rattle.operations.specs.Making.{Made, newScope as newScopeW, newEffect as newEffectW}
+use Rattle.making.specs.Making.{Made, newScope as newScopeW, newEffect as newEffectW}
 use Rattle.engine.specs.Perform.{Done, done, numbered, performed, ownerWord}
 use Rattle.meaning.specs.State.{St, scope, readable, f0, nothing}
 use Rattle.meaning.specs.Setters.{withLog}

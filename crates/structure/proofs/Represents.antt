@@ -13,10 +13,10 @@ use Rattle.primitive.specs.Words.{COUNT, USED, QUEUE, FLAGS, KIND, GONE, DEPS, 
 use Rattle.formula.specs.Trees.{Tree, constant}
 use Rattle.counts.specs.Counts.{carryIn, countedIn}
 use Rattle.counts.proofs.Capacities.{carried}
-use Rattle.described.specs.Formulas.{ownCells}
-use Rattle.described.specs.Rules.{HasFormula, NodeRow, a-signal, a-computed, an-effect, a-scope, Described}
-use Rattle.described.specs.Whole.{usedCells}
-use Rattle.joined.specs.AtRest.{subsOf, depsOf, freeOf, Flagged, signal-clean, signal-set, computed-never, computed-clean, computed-bare, computed-pending, computed-dirty, effect-watching, effect-queued, effect-pending, effect-dirty, gone-queued, gone-done, scope-still, Joined}
+use Rattle.telling.specs.Formulas.{ownCells}
+use Rattle.telling.specs.Rules.{HasFormula, NodeRow, a-signal, a-computed, an-effect, a-scope, Described}
+use Rattle.telling.specs.Whole.{usedCells}
+use Rattle.resting.specs.AtRest.{subsOf, depsOf, freeOf, Flagged, signal-clean, signal-set, computed-never, computed-clean, computed-bare, computed-pending, computed-dirty, effect-watching, effect-queued, effect-pending, effect-dirty, gone-queued, gone-done, scope-still, Joined}
 use Rattle.meaning.specs.State.{capacities, signal, computed, effect, scope, deps}
 use Rattle.meaning.specs.Played.{byte}
 use Rattle.meaning.specs.Words.{formulaOf}

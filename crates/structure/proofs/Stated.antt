@@ -10,9 +10,9 @@ use lib.ListN.{getD}
 use borrow.Author.Tests.{ltb-true, ltb-false, lt-ltb, le-ltb}
 use Rattle.primitive.specs.Words.{COUNT, OWNER, DEPS, SUBS, NEXT-DEP, NEXT-SUB, node, link}
 use Rattle.counts.specs.Counts.{nodeRoom, slotRoom, cellRoom}
-use Rattle.described.specs.Formulas.{ownCells}
-use Rattle.described.specs.Whole.{usedCells}
-use Rattle.joined.specs.AtRest.{subsOf, depsOf, freeOf}
+use Rattle.telling.specs.Formulas.{ownCells}
+use Rattle.telling.specs.Whole.{usedCells}
+use Rattle.resting.specs.AtRest.{subsOf, depsOf, freeOf}
 use Rattle.meaning.specs.State.{St, Row, deps}
 use Rattle.meaning.specs.Setters.{withLog, withStuck}
 use Rattle.meaning.specs.Reserve.{reserve}

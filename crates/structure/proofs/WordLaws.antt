@@ -22,11 +22,11 @@ use Rattle.lists.specs.Sum.{bit}
 use Rattle.lists.specs.Each.{keep}
 use Rattle.counts.specs.Depths.{depthUnder}
 use Rattle.links.specs.Free.{isLive}
-use Rattle.joined.specs.Linked.{isLive as liveIn}
-use Rattle.joined.specs.Depends.{readsKind}
-use Rattle.joined.specs.Named.{namesOf}
-use Rattle.described.specs.Formulas.{ownCells}
-use Rattle.described.specs.Whole.{usedCells}
+use Rattle.resting.specs.Linked.{isLive as liveIn}
+use Rattle.resting.specs.Depends.{readsKind}
+use Rattle.resting.specs.Named.{namesOf}
+use Rattle.telling.specs.Formulas.{ownCells}
+use Rattle.telling.specs.Whole.{usedCells}
 use Rattle.meaning.specs.State.{Kind, signal, computed, effect, scope, readable}
 use Rattle.meaning.specs.Engine.{tallest as tallestOf, depthUnder as depthUnderOf}
 use Rattle.meaning.specs.WellFormed.{In, readLinks}

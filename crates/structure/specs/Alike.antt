@@ -12,8 +12,8 @@ use Rattle.primitive.specs.Words.{COUNT, USED, DEPTH, QUEUE, CYCLE, FREE, FLAGS
 use Rattle.links.specs.Free.{isLive}
 use Rattle.reads.specs.Tables.{currentOf, pendingOf}
 use Rattle.counts.specs.Counts.{slotRoom}
-use Rattle.described.specs.Formulas.{ownCells}
-use Rattle.described.specs.Whole.{usedCells}
+use Rattle.telling.specs.Formulas.{ownCells}
+use Rattle.telling.specs.Whole.{usedCells}
 use Rattle.refusals.specs.Sight.{kindOf}
 use Rattle.structure.specs.Rep.{hasForm}
 

@@ -13,9 +13,9 @@ use Rattle.formula.specs.Trees.{Tree, constant}
 use Rattle.links.specs.Free.{isLive}
 use Rattle.marks.specs.Fields.{flagsOf}
 use Rattle.reads.specs.Tables.{currentOf, pendingOf, cycleOf}
-use Rattle.described.specs.Formulas.{ownCells}
-use Rattle.described.specs.Whole.{usedCells}
-use Rattle.joined.specs.AtRest.{subsOf, depsOf, freeOf}
+use Rattle.telling.specs.Formulas.{ownCells}
+use Rattle.telling.specs.Whole.{usedCells}
+use Rattle.resting.specs.AtRest.{subsOf, depsOf, freeOf}
 use Rattle.meaning.specs.State.{St}
 use Rattle.meaning.specs.Setters.{withLog, withStuck}
 use Rattle.meaning.specs.Words.{formulaOf}

@@ -17,11 +17,11 @@ use Rattle.formula.specs.Trees.{Tree, constant, written, size, names}
 use Rattle.links.specs.Free.{isLive}
 use Rattle.marks.specs.Fields.{flagsOf}
 use Rattle.reads.specs.Tables.{currentOf, pendingOf, cycleOf}
-use Rattle.described.specs.Formulas.{ownCells}
-use Rattle.described.specs.Whole.{usedCells}
+use Rattle.telling.specs.Formulas.{ownCells}
+use Rattle.telling.specs.Whole.{usedCells}
 use Rattle.lists.specs.Sum.{bit}
-use Rattle.joined.specs.declared.linked.Side.{Side}
-use Rattle.joined.specs.Linked.{subscribers, dependencies}
+use Rattle.resting.specs.declared.linked.Side.{Side}
+use Rattle.resting.specs.Linked.{subscribers, dependencies}
 use Rattle.meaning.specs.State.{St, Kind, signal, computed, effect, scope, Room, deps}
 use Rattle.meaning.specs.Played.{byte}
 use Rattle.refusals.specs.Sight.{kindOf}

@@ -1,8 +1,8 @@
 // The lines of an answer, put into a lent buffer; what finds no room is left out.
 ghost use mathlib.Core.Path.{_≡_};
-ghost use Rattle.text.specs.Buffers.{buffer, put, pushed};
-ghost use Rattle.text.specs.Decimals.{glyph, digits, decimal};
-ghost use Rattle.text.specs.Answers.{line, row, rows, answer, unreadableAnswer};
+ghost use Rattle.spelling.specs.Buffers.{buffer, put, pushed};
+ghost use Rattle.spelling.specs.Decimals.{glyph, digits, decimal};
+ghost use Rattle.spelling.specs.Answers.{line, row, rows, answer, unreadableAnswer};
 ghost use lib.IntN.{pos};
 
 // One byte at out[at]; answers the next place.

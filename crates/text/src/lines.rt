@@ -1,33 +1,16 @@
 // A pair of lines, read from a window on the input into lent words.
-use crate::numbers::Spelled;
 use crate::numbers::number;
+use spelling::lines::Count;
+use spelling::lines::End;
+use spelling::lines::Found;
+use spelling::numbers::Spelled;
 ghost use mathlib.Core.Path.{_≡_};
 ghost use mathlib.Core.List.{_∷_};
 ghost use lib.ListN.{length};
-ghost use Rattle.text.specs.Numbers.{spelled};
-ghost use Rattle.text.specs.Lines.{space, firstOf, begins, endOf, commandLine, argsLine, pieces, eachSpelled, fromSecond};
-ghost use Rattle.text.specs.Pairs.{countFrom, worth, worths, argWords, taken, held, into, pairIn};
-ghost use Rattle.text.specs.Buffers.{buffer, put, pushed};
-
-// Where a line ends: at its newline, not yet, or never, since more than 4,096 bytes are there without one.
-pub enum End {
-    At(usize),
-    Unended,
-    Long,
-}
-
-// How many numbers there are.
-pub enum Count {
-    Are(usize),
-    Fault,
-}
-
-// What a window on the input holds: no whole pair yet; a pair that can't be read; a pair, with the bytes behind it and its words counted.
-pub enum Found {
-    Short,
-    Unreadable,
-    Pair(usize, usize),
-}
+ghost use Rattle.spelling.specs.Numbers.{spelled};
+ghost use Rattle.spelling.specs.Lines.{space, firstOf, begins, endOf, commandLine, argsLine, pieces, eachSpelled, fromSecond};
+ghost use Rattle.spelling.specs.Pairs.{countFrom, worth, worths, argWords, taken, held, into, pairIn};
+ghost use Rattle.spelling.specs.Buffers.{buffer, put, pushed};
 
 // The first place where b stands, or the length.
 fn first(s: &[u8], b: u8) -> usize

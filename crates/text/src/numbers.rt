@@ -1,18 +1,8 @@
 // Strict decimal numbers, read: no leading zeros, no `+`, no `-0`, within i64.
+use spelling::numbers::Digits;
+use spelling::numbers::Spelled;
 ghost use mathlib.Core.Path.{_≡_};
-ghost use Rattle.text.specs.Numbers.{digitsFrom, natural, within, plus, minus, spelled};
-
-// What digits spell.
-pub enum Digits {
-    Worth(u64),
-    None,
-}
-
-// What the bytes of a number spell.
-pub enum Spelled {
-    Is(i64),
-    Not,
-}
+ghost use Rattle.spelling.specs.Numbers.{digitsFrom, natural, within, plus, minus, spelled};
 
 fn wide(b: u8) -> u64
     ensures { λ r. ⌜ r ≡ b ⌝ }

@@ -9,6 +9,7 @@ pub mod OfDescribed
 pub mod OfJoined
 pub mod OfRefusals
 pub mod OfOperations
+pub mod OfMaking
 pub mod OfEngine
 pub mod OfText
 pub mod OfScript

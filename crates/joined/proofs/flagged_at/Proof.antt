@@ -1,5 +1,5 @@
 -- `joined::flagged_at` meets its contract. Assumes nothing.
-use Rattle.joined.specs.Joined.{flaggedAt}
+use Rattle.resting.specs.Joined.{flaggedAt}
 use borrow.Author.Tests.{le-leb, lt-leb}
 use borrow.Author.Needs.{needs}
 use Rattle.joined.proofs.flagged_at.Statement.{statement}

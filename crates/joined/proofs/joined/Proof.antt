@@ -1,5 +1,5 @@
 -- `joined::joined` meets its contract. Assumes nothing.
-use Rattle.joined.specs.Joined.{joinedIn}
+use Rattle.resting.specs.Joined.{joinedIn}
 use borrow.Author.Tests.{not-false, not-true}
 use borrow.Author.Needs.{needs}
 use Rattle.joined.proofs.joined.Statement.{statement}

@@ -1,7 +1,7 @@
 -- `joined::rest` meets its contract. Assumes nothing.
 use Rattle.lists.specs.Each.{every}
 use Rattle.lists.proofs.EachLaws.{every-end, every-bad, every-more}
-use Rattle.joined.specs.Joined.{restsAt, restIn}
+use Rattle.resting.specs.Joined.{restsAt, restIn}
 use mathlib.Core.Path.{_≡_, refl, sym, _∙_}
 use Prim.Native.Nat.{_-_}
 use native.Mathlib.Omega.{arith}

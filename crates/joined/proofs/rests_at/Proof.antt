@@ -1,5 +1,5 @@
 -- `joined::rests_at` meets its contract. Assumes nothing.
-use Rattle.joined.specs.Joined.{restsAt}
+use Rattle.resting.specs.Joined.{restsAt}
 use borrow.Author.Tests.{not-false, not-true}
 use borrow.Author.Needs.{needs}
 use Rattle.joined.proofs.rests_at.Statement.{statement}

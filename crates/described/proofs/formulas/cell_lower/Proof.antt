@@ -1,5 +1,5 @@
 -- `described::formulas::cell_lower` meets its contract. Assumes nothing.
-use Rattle.described.specs.Formulas.{cellLower}
+use Rattle.telling.specs.Formulas.{cellLower}
 use borrow.Author.Needs.{needs}
 use Rattle.described.proofs.formulas.cell_lower.Statement.{statement}
 use Rattle.described.proofs.formulas.cell_lower.Tie as tie

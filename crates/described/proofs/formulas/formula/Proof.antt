@@ -1,5 +1,5 @@
 -- `described::formulas::formula` meets its contract. Assumes nothing.
-use Rattle.described.specs.Formulas.{formulaIn}
+use Rattle.telling.specs.Formulas.{formulaIn}
 use borrow.Author.Tests.{not-false, not-true}
 use borrow.Author.Needs.{needs}
 use Rattle.described.proofs.formulas.formula.Statement.{statement}

@@ -1,6 +1,6 @@
 -- `described::formulas::reads_lower` meets its contract. Assumes nothing.
 use Rattle.described.proofs.FormulaLaws.{lower-start, lower-false, lower-true, lower-done}
-use Rattle.described.specs.Formulas.{allLower, readsLower}
+use Rattle.telling.specs.Formulas.{allLower, readsLower}
 use Rattle.formula.specs.Names.{named}
 use borrow.Author.Needs.{needs}
 use borrow.Author.Tests.{not-true, not-false}

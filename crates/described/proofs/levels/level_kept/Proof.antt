@@ -1,5 +1,5 @@
 -- `described::levels::level_kept` meets its contract. Assumes nothing.
-use Rattle.described.specs.Levels.{levelKept}
+use Rattle.telling.specs.Levels.{levelKept}
 use borrow.Author.Tests.{le-leb, lt-leb}
 use borrow.Author.Needs.{needs}
 use Rattle.described.proofs.levels.level_kept.Statement.{statement}

@@ -1,6 +1,6 @@
 -- `described::nodes::computed` meets its contract. Assumes nothing.
 use Rattle.described.proofs.LevelLaws.{kept-whole}
-use Rattle.described.specs.Nodes.{computedIn}
+use Rattle.telling.specs.Nodes.{computedIn}
 use borrow.Author.Tests.{not-false, not-true}
 use borrow.Author.Needs.{needs}
 use Rattle.described.proofs.nodes.computed.Statement.{statement}

@@ -1,5 +1,5 @@
 -- `described::nodes::effect` meets its contract. Assumes nothing.
-use Rattle.described.specs.Nodes.{effectIn}
+use Rattle.telling.specs.Nodes.{effectIn}
 use borrow.Author.Tests.{not-false, not-true}
 use borrow.Author.Needs.{needs}
 use Rattle.described.proofs.nodes.effect.Statement.{statement}

@@ -1,6 +1,6 @@
 -- `described::nodes::every_node` meets its contract. Assumes nothing.
 use Rattle.described.proofs.NodeLaws.{every-done, every-false, every-true}
-use Rattle.described.specs.Nodes.{nodesIn}
+use Rattle.telling.specs.Nodes.{nodesIn}
 use borrow.Author.Needs.{needs}
 use borrow.Author.Tests.{not-true, not-false}
 use mathlib.Core.Path.{_≡_, refl, sym, _∙_}

@@ -1,5 +1,5 @@
 -- `described::nodes::node` meets its contract. Assumes nothing.
-use Rattle.described.specs.Nodes.{nodeIn}
+use Rattle.telling.specs.Nodes.{nodeIn}
 use borrow.Author.Tests.{eq-eqb, ne-eqb}
 use borrow.Author.Needs.{needs}
 use Rattle.described.proofs.nodes.node.Statement.{statement}

@@ -1,6 +1,6 @@
 -- `described::nodes::scope` meets its contract. Assumes nothing.
 use Rattle.described.proofs.LevelLaws.{kept-whole}
-use Rattle.described.specs.Nodes.{scopeIn}
+use Rattle.telling.specs.Nodes.{scopeIn}
 use borrow.Author.Tests.{le-leb, lt-leb}
 use borrow.Author.Needs.{needs}
 use Rattle.described.proofs.nodes.scope.Statement.{statement}

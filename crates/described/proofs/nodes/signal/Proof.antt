@@ -1,5 +1,5 @@
 -- `described::nodes::signal` meets its contract. Assumes nothing.
-use Rattle.described.specs.Nodes.{signalIn}
+use Rattle.telling.specs.Nodes.{signalIn}
 use borrow.Author.Tests.{not-false, not-true}
 use borrow.Author.Needs.{needs}
 use Rattle.described.proofs.nodes.signal.Statement.{statement}

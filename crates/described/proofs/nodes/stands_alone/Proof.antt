@@ -1,5 +1,5 @@
 -- `described::nodes::stands_alone` meets its contract. Assumes nothing.
-use Rattle.described.specs.Nodes.{standsAlone}
+use Rattle.telling.specs.Nodes.{standsAlone}
 use borrow.Author.Tests.{eq-eqb, ne-eqb}
 use borrow.Author.Needs.{needs}
 use Rattle.described.proofs.nodes.stands_alone.Statement.{statement}

@@ -1,5 +1,5 @@
 -- `described::rank::lower` meets its contract. Assumes nothing.
-use Rattle.described.specs.Formulas.{lowerRank}
+use Rattle.telling.specs.Formulas.{lowerRank}
 use mathlib.Core.Path.{refl}
 use Rattle.described.proofs.rank.lower.Statement.{statement}
 use Rattle.described.proofs.rank.lower.Tie as tie

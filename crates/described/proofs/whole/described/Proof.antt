@@ -2,7 +2,7 @@
 use Prim.Native.Nat.{_*_}
 use lib.ListN.{length-take}
 use native.Mathlib.Omega.{arith}
-use Rattle.described.specs.Whole.{describedIn}
+use Rattle.telling.specs.Whole.{describedIn}
 use borrow.Author.Tests.{le-leb, lt-leb, not-false, not-true}
 use borrow.Author.Needs.{needs}
 use Rattle.described.proofs.whole.described.Statement.{statement}

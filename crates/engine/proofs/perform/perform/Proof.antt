@@ -1,5 +1,5 @@
 -- `engine::perform::perform` meets its contract. Assumes nothing.
-use Rattle.operations.specs.Making.{newSignal}
+use Rattle.making.specs.Making.{newSignal}
 use mir.Syntax.{w64}
 use mir.Val.{toZ, ofZ}
 use mir.Facts.{toZ-ofZ}

@@ -1,5 +1,5 @@
 -- `joined::depends::depends_at` meets its contract. Assumes nothing.
-use Rattle.joined.specs.Depends.{dependsAt}
+use Rattle.resting.specs.Depends.{dependsAt}
 use borrow.Author.Needs.{needs}
 use Rattle.joined.proofs.depends.depends_at.Statement.{statement}
 use Rattle.joined.proofs.depends.depends_at.Tie as tie

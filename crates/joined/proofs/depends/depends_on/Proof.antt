@@ -1,7 +1,7 @@
 -- `joined::depends::depends_on` meets its contract. Assumes nothing.
 use Rattle.joined.proofs.WalkTurns.{deps, deps-end, deps-bad, deps-more}
 use Rattle.lists.proofs.EachLaws.{along-out}
-use Rattle.joined.specs.Depends.{mayDepend, dependsOn}
+use Rattle.resting.specs.Depends.{mayDepend, dependsOn}
 use mathlib.Core.Path.{_≡_, refl, sym, _∙_}
 use Prim.Native.Nat.{_-_}
 use native.Mathlib.Omega.{arith}

@@ -1,5 +1,5 @@
 -- `joined::depends::may_depend` meets its contract. Assumes nothing.
-use Rattle.joined.specs.Depends.{mayDepend}
+use Rattle.resting.specs.Depends.{mayDepend}
 use borrow.Author.Tests.{not-false, not-true}
 use borrow.Author.Needs.{needs}
 use Rattle.joined.proofs.depends.may_depend.Statement.{statement}

@@ -1,5 +1,5 @@
 -- `joined::depends::owned_at` meets its contract. Assumes nothing.
-use Rattle.joined.specs.Depends.{ownedAt}
+use Rattle.resting.specs.Depends.{ownedAt}
 use borrow.Author.Tests.{eq-eqb, ne-eqb}
 use borrow.Author.Needs.{needs}
 use Rattle.joined.proofs.depends.owned_at.Statement.{statement}

@@ -1,5 +1,5 @@
 -- `joined::flagged::computed_flags` meets its contract. Assumes nothing.
-use Rattle.joined.specs.Flagged.{computedFlags}
+use Rattle.resting.specs.Flagged.{computedFlags}
 use borrow.Author.Tests.{eq-eqb, ne-eqb}
 use Rattle.joined.proofs.flagged.computed_flags.Statement.{statement}
 use Rattle.joined.proofs.flagged.computed_flags.Tie as tie

@@ -1,5 +1,5 @@
 -- `joined::flagged::effect_flags` meets its contract. Assumes nothing.
-use Rattle.joined.specs.Flagged.{effectFlags}
+use Rattle.resting.specs.Flagged.{effectFlags}
 use borrow.Author.Tests.{eq-eqb, ne-eqb}
 use Rattle.joined.proofs.flagged.effect_flags.Statement.{statement}
 use Rattle.joined.proofs.flagged.effect_flags.Tie as tie

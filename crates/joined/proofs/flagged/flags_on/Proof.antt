@@ -1,5 +1,5 @@
 -- `joined::flagged::flags_on` meets its contract. Assumes nothing.
-use Rattle.joined.specs.Flagged.{flagsOn}
+use Rattle.resting.specs.Flagged.{flagsOn}
 use borrow.Author.Tests.{eq-eqb, ne-eqb}
 use borrow.Author.Needs.{needs}
 use Rattle.joined.proofs.flagged.flags_on.Statement.{statement}

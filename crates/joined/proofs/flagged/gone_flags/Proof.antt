@@ -1,5 +1,5 @@
 -- `joined::flagged::gone_flags` meets its contract. Assumes nothing.
-use Rattle.joined.specs.Flagged.{goneFlags}
+use Rattle.resting.specs.Flagged.{goneFlags}
 use borrow.Author.Tests.{eq-eqb, ne-eqb}
 use Rattle.joined.proofs.flagged.gone_flags.Statement.{statement}
 use Rattle.joined.proofs.flagged.gone_flags.Tie as tie

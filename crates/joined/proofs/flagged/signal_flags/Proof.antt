@@ -1,5 +1,5 @@
 -- `joined::flagged::signal_flags` meets its contract. Assumes nothing.
-use Rattle.joined.specs.Flagged.{signalFlags}
+use Rattle.resting.specs.Flagged.{signalFlags}
 use borrow.Author.Tests.{eq-eqb, ne-eqb}
 use Rattle.joined.proofs.flagged.signal_flags.Statement.{statement}
 use Rattle.joined.proofs.flagged.signal_flags.Tie as tie

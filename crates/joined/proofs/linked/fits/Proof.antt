@@ -1,5 +1,5 @@
 -- `joined::linked::fits` meets its contract. Assumes nothing.
-use Rattle.joined.specs.Linked.{fits}
+use Rattle.resting.specs.Linked.{fits}
 use borrow.Author.Tests.{eq-eqb, ne-eqb, not-false, not-true}
 use borrow.Author.Needs.{needs}
 use Rattle.joined.proofs.linked.fits.Statement.{statement}

@@ -1,6 +1,6 @@
 -- `joined::linked::frees` meets its contract. Assumes nothing.
 use Rattle.joined.proofs.WalkTurns.{frees-done, frees-out, frees-bad, frees-more}
-use Rattle.joined.specs.Linked.{frees}
+use Rattle.resting.specs.Linked.{frees}
 use mathlib.Core.Path.{_≡_, refl, sym, _∙_}
 use Prim.Native.Nat.{_-_}
 use native.Mathlib.Omega.{arith}

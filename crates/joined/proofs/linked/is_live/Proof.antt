@@ -1,5 +1,5 @@
 -- `joined::linked::is_live` meets its contract. Assumes nothing.
-use Rattle.joined.specs.Linked.{isLive}
+use Rattle.resting.specs.Linked.{isLive}
 use borrow.Author.Needs.{needs}
 use Rattle.joined.proofs.linked.is_live.Statement.{statement}
 use Rattle.joined.proofs.linked.is_live.Tie as tie

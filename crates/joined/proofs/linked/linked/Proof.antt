@@ -1,5 +1,5 @@
 -- `joined::linked::linked` meets its contract. Assumes nothing.
-use Rattle.joined.specs.Linked.{linkedIn}
+use Rattle.resting.specs.Linked.{linkedIn}
 use borrow.Author.Tests.{eq-eqb, ne-eqb}
 use borrow.Author.Needs.{needs}
 use Rattle.joined.proofs.linked.linked.Statement.{statement}

@@ -1,5 +1,5 @@
 -- `joined::linked::spare` meets its contract. Assumes nothing.
-use Rattle.joined.specs.Linked.{spare}
+use Rattle.resting.specs.Linked.{spare}
 use borrow.Author.Tests.{le-ltb, lt-ltb}
 use borrow.Author.Needs.{needs}
 use Rattle.joined.proofs.linked.spare.Statement.{statement}

@@ -1,6 +1,6 @@
 -- `joined::linked::walk` meets its contract. Assumes nothing.
 use Rattle.joined.proofs.WalkTurns.{walk-done, walk-wrong, walk-out, walk-bad, walk-more}
-use Rattle.joined.specs.Linked.{walk}
+use Rattle.resting.specs.Linked.{walk}
 use mathlib.Core.Path.{_≡_, refl, sym, _∙_}
 use Prim.Native.Nat.{_-_}
 use native.Mathlib.Omega.{arith}

@@ -1,6 +1,6 @@
 -- `joined::linked::walks` meets its contract. Assumes nothing.
 use Rattle.joined.proofs.WalkTurns.{walks-end, walks-bad, walks-more}
-use Rattle.joined.specs.Linked.{walks}
+use Rattle.resting.specs.Linked.{walks}
 use mathlib.Core.Path.{_≡_, refl, sym, _∙_}
 use Prim.Native.Nat.{_-_}
 use native.Mathlib.Omega.{arith}

@@ -1,6 +1,6 @@
 -- `joined::named::all_named` meets its contract. Assumes nothing.
 use Rattle.joined.proofs.StampTurns.{named-start, named-end, named-bad, named-more}
-use Rattle.joined.specs.Named.{namedFrom}
+use Rattle.resting.specs.Named.{namedFrom}
 use mathlib.Core.Path.{_≡_, refl, sym, _∙_}
 use Prim.Native.Nat.{_+_, _-_}
 use native.Mathlib.Omega.{arith}

@@ -1,5 +1,5 @@
 -- `joined::named::is_read_link` meets its contract. Assumes nothing.
-use Rattle.joined.specs.Named.{isReadLink}
+use Rattle.resting.specs.Named.{isReadLink}
 use borrow.Author.Needs.{needs}
 use Rattle.joined.proofs.named.is_read_link.Statement.{statement}
 use Rattle.joined.proofs.named.is_read_link.Tie as tie

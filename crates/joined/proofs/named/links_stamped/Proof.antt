@@ -1,7 +1,7 @@
 -- `joined::named::links_stamped` meets its contract. Assumes nothing.
 use Rattle.joined.proofs.WalkTurns.{deps, deps-end, deps-bad, deps-more}
 use Rattle.lists.proofs.EachLaws.{along-out}
-use Rattle.joined.specs.Named.{stamped, linksStamped}
+use Rattle.resting.specs.Named.{stamped, linksStamped}
 use mathlib.Core.Path.{_≡_, refl, sym, _∙_}
 use Prim.Native.Nat.{_-_}
 use native.Mathlib.Omega.{arith}

@@ -1,6 +1,6 @@
 -- `joined::named::named` meets its contract. Assumes nothing.
-use Rattle.joined.specs.Named.{namedIn}
-use Rattle.joined.specs.Blank.{blank}
+use Rattle.resting.specs.Named.{namedIn}
+use Rattle.resting.specs.Blank.{blank}
 use borrow.Author.Needs.{needs}
 use Rattle.joined.proofs.named.named.Statement.{statement}
 use Rattle.joined.proofs.named.named.Tie as tie

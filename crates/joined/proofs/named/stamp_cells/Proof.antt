@@ -1,6 +1,6 @@
 -- `joined::named::stamp_cells` meets its contract. Assumes nothing.
 use Rattle.joined.proofs.StampTurns.{cells-none, cells-turn, cells-past}
-use Rattle.joined.specs.Named.{stampCells}
+use Rattle.resting.specs.Named.{stampCells}
 use mathlib.Core.Path.{_≡_, refl, sym, _∙_}
 use Prim.Native.Nat.{_-_}
 use native.Mathlib.Omega.{arith}

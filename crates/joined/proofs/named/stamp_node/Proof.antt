@@ -1,6 +1,6 @@
 -- `joined::named::stamp_node` meets its contract. Assumes nothing.
 use Rattle.joined.proofs.StampTurns.{node-stamped, node-plain}
-use Rattle.joined.specs.Depends.{readsKind}
+use Rattle.resting.specs.Depends.{readsKind}
 use mathlib.Core.Path.{sym, ap, _∙_}
 use Prim.Native.Nat.{_-_}
 use borrow.Author.Needs.{needs}

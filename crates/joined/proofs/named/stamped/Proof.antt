@@ -1,5 +1,5 @@
 -- `joined::named::stamped` meets its contract. Assumes nothing.
-use Rattle.joined.specs.Named.{stamped}
+use Rattle.resting.specs.Named.{stamped}
 use borrow.Author.Needs.{needs}
 use Rattle.joined.proofs.named.stamped.Statement.{statement}
 use Rattle.joined.proofs.named.stamped.Tie as tie

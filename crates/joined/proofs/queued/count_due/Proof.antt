@@ -2,7 +2,7 @@
 use Rattle.lists.specs.Sum.{count}
 use Rattle.lists.proofs.SumLaws.{bit-le}
 use Rattle.lists.proofs.EachLaws.{count-step, count-end}
-use Rattle.joined.specs.Queued.{due}
+use Rattle.resting.specs.Queued.{due}
 use mathlib.Core.Path.{_≡_}
 use Prim.Native.Nat.{_+_, _-_, _≤_}
 use native.Mathlib.Omega.{arith}

@@ -1,5 +1,5 @@
 -- `joined::queued::due` meets its contract. Assumes nothing.
-use Rattle.joined.specs.Queued.{due}
+use Rattle.resting.specs.Queued.{due}
 use borrow.Author.Tests.{not-false, not-true}
 use borrow.Author.Needs.{needs}
 use Rattle.joined.proofs.queued.due.Statement.{statement}

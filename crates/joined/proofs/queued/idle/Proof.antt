@@ -1,5 +1,5 @@
 -- `joined::queued::idle` meets its contract. Assumes nothing.
-use Rattle.joined.specs.Queued.{idle}
+use Rattle.resting.specs.Queued.{idle}
 use borrow.Author.Tests.{eq-eqb, ne-eqb}
 use Rattle.joined.proofs.queued.idle.Statement.{statement}
 use Rattle.joined.proofs.queued.idle.Tie as tie

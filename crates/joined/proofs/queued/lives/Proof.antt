@@ -1,5 +1,5 @@
 -- `joined::queued::lives` meets its contract. Assumes nothing.
-use Rattle.joined.specs.Queued.{lives}
+use Rattle.resting.specs.Queued.{lives}
 use borrow.Author.Needs.{needs}
 use Rattle.joined.proofs.queued.lives.Statement.{statement}
 use Rattle.joined.proofs.queued.lives.Tie as tie

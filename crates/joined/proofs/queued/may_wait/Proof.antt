@@ -1,5 +1,5 @@
 -- `joined::queued::may_wait` meets its contract. Assumes nothing.
-use Rattle.joined.specs.Queued.{mayWait}
+use Rattle.resting.specs.Queued.{mayWait}
 use borrow.Author.Tests.{eq-eqb, le-ltb, lt-ltb, ne-eqb}
 use borrow.Author.Needs.{needs}
 use Rattle.joined.proofs.queued.may_wait.Statement.{statement}

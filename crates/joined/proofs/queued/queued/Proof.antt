@@ -1,6 +1,6 @@
 -- `joined::queued::queued` meets its contract. Assumes nothing.
-use Rattle.joined.specs.Queued.{queuedIn}
-use Rattle.joined.specs.Blank.{blank}
+use Rattle.resting.specs.Queued.{queuedIn}
+use Rattle.resting.specs.Blank.{blank}
 use borrow.Author.Tests.{le-leb, lt-leb, not-false, not-true}
 use borrow.Author.Needs.{needs}
 use Rattle.joined.proofs.queued.queued.Statement.{statement}

@@ -1,5 +1,5 @@
 -- `joined::queued::waits_on` meets its contract. Assumes nothing.
-use Rattle.joined.specs.Queued.{waitsOn}
+use Rattle.resting.specs.Queued.{waitsOn}
 use borrow.Author.Tests.{eq-eqb, ne-eqb}
 use Rattle.joined.proofs.queued.waits_on.Statement.{statement}
 use Rattle.joined.proofs.queued.waits_on.Tie as tie

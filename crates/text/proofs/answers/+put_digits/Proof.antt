@@ -1,7 +1,7 @@
 -- The cycle of calls `text::answers::put_digits` meets its contracts. Assumes nothing.
 use mathlib.Core.Path.{_∙_}
 use native.Mathlib.Omega.{arith}
-use Rattle.text.proofs.AnswerLaws.{digits-none, digits-one, digits-more}
+use Rattle.spelling.proofs.AnswerLaws.{digits-none, digits-one, digits-more}
 use borrow.Author.Needs.{needs}
 use Prim.Native.Nat.{ℕ, _<_}
 use borrow.Fn.Kinds.{In}

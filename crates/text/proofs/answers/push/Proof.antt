@@ -1,5 +1,5 @@
 -- `text::answers::push` meets its contract. Assumes nothing.
-use Rattle.text.proofs.BufferLaws.{push-in, push-out}
+use Rattle.spelling.proofs.BufferLaws.{push-in, push-out}
 use borrow.Author.Needs.{needs}
 use Rattle.text.proofs.answers.push.Statement.{statement}
 use Rattle.text.proofs.answers.push.Tie as tie

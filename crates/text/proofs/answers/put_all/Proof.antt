@@ -3,8 +3,8 @@ use mathlib.Core.Path.{_≡_, refl, sym, _∙_}
 use Prim.Native.Nat.{_-_, _≤_}
 use native.Mathlib.Omega.{arith}
 use lib.ListN.{length, drop}
-use Rattle.text.specs.Buffers.{buffer, put}
-use Rattle.text.proofs.BufferLaws.{put-more, put-end}
+use Rattle.spelling.specs.Buffers.{buffer, put}
+use Rattle.spelling.proofs.BufferLaws.{put-more, put-end}
 use borrow.Author.Needs.{needs}
 use Rattle.text.proofs.answers.put_all.Statement.{statement}
 use Rattle.text.proofs.answers.put_all.Tie as tie

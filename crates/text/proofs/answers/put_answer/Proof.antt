@@ -1,7 +1,7 @@
 -- `text::answers::put_answer` meets its contract. Assumes nothing.
 use mathlib.Core.Path.{_∙_}
 use mir.Facts.{toZ-ofZ}
-use Rattle.text.proofs.AnswerLaws.{put-answer}
+use Rattle.spelling.proofs.AnswerLaws.{put-answer}
 use borrow.Author.Needs.{needs}
 use Rattle.text.proofs.answers.put_answer.Statement.{statement}
 use Rattle.text.proofs.answers.put_answer.Tie as tie

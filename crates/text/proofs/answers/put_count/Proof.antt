@@ -1,6 +1,6 @@
 -- `text::answers::put_count` meets its contract. Assumes nothing.
 use mathlib.Core.Path.{_∙_}
-use Rattle.text.proofs.AnswerLaws.{put-line}
+use Rattle.spelling.proofs.AnswerLaws.{put-line}
 use borrow.Author.Needs.{needs}
 use Rattle.text.proofs.answers.put_count.Statement.{statement}
 use Rattle.text.proofs.answers.put_count.Tie as tie

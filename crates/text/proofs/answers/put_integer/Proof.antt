@@ -1,8 +1,8 @@
 -- `text::answers::put_integer` meets its contract. Assumes nothing.
 use mathlib.Core.Path.{refl, _∙_}
 use native.Mathlib.Omega.{arith}
-use Rattle.text.proofs.NumberLaws.{gap-fits, gap-plain, gap-word, under-low, below-zero, plain-fits, plain-is}
-use Rattle.text.proofs.AnswerLaws.{put-negative}
+use Rattle.spelling.proofs.NumberLaws.{gap-fits, gap-plain, gap-word, under-low, below-zero, plain-fits, plain-is}
+use Rattle.spelling.proofs.AnswerLaws.{put-negative}
 use borrow.Author.Needs.{needs}
 use Rattle.text.proofs.answers.put_integer.Statement.{statement}
 use Rattle.text.proofs.answers.put_integer.Tie as tie

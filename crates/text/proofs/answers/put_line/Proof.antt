@@ -1,7 +1,7 @@
 -- `text::answers::put_line` meets its contract. Assumes nothing.
 use mathlib.Core.Path.{_∙_}
 use mir.Facts.{toZ-ofZ}
-use Rattle.text.proofs.AnswerLaws.{put-line}
+use Rattle.spelling.proofs.AnswerLaws.{put-line}
 use borrow.Author.Needs.{needs}
 use Rattle.text.proofs.answers.put_line.Statement.{statement}
 use Rattle.text.proofs.answers.put_line.Tie as tie

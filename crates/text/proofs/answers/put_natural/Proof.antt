@@ -1,5 +1,5 @@
 -- `text::answers::put_natural` meets its contract. Assumes nothing.
-use Rattle.text.specs.Decimals.{decimal}
+use Rattle.spelling.specs.Decimals.{decimal}
 use borrow.Author.Needs.{needs}
 use Rattle.text.proofs.answers.put_natural.Statement.{statement}
 use Rattle.text.proofs.answers.put_natural.Tie as tie

@@ -1,7 +1,7 @@
 -- `text::answers::put_row` meets its contract. Assumes nothing.
 use mathlib.Core.Path.{_∙_}
 use mir.Facts.{toZ-ofZ}
-use Rattle.text.proofs.AnswerLaws.{put-row}
+use Rattle.spelling.proofs.AnswerLaws.{put-row}
 use borrow.Author.Needs.{needs}
 use Rattle.text.proofs.answers.put_row.Statement.{statement}
 use Rattle.text.proofs.answers.put_row.Tie as tie

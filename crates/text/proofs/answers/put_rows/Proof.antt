@@ -9,9 +9,9 @@ use mathlib.Core.Path.{_≡_, refl, sym, _∙_}
 use Prim.Native.Nat.{_≤_}
 use native.Mathlib.Omega.{arith}
 use lib.ListN.{length, drop}
-use Rattle.text.specs.Buffers.{buffer, put}
-use Rattle.text.specs.Answers.{rows}
-use Rattle.text.proofs.AnswerLaws.{put-rows-none, put-rows-short, put-rows-more}
+use Rattle.spelling.specs.Buffers.{buffer, put}
+use Rattle.spelling.specs.Answers.{rows}
+use Rattle.spelling.proofs.AnswerLaws.{put-rows-none, put-rows-short, put-rows-more}
 use borrow.Author.Needs.{needs}
 use Rattle.text.proofs.answers.put_rows.Statement.{statement}
 use Rattle.text.proofs.answers.put_rows.Tie as tie

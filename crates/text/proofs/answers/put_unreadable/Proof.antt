@@ -1,5 +1,5 @@
 -- `text::answers::put_unreadable` meets its contract. Assumes nothing.
-use Rattle.text.specs.Answers.{unreadableAnswer}
+use Rattle.spelling.specs.Answers.{unreadableAnswer}
 use borrow.Author.Needs.{needs}
 use Rattle.text.proofs.answers.put_unreadable.Statement.{statement}
 use Rattle.text.proofs.answers.put_unreadable.Tie as tie

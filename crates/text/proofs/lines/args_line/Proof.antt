@@ -2,9 +2,9 @@
 use mathlib.Core.Path.{sym, ap, _∙_}
 use Prim.Native.Nat.{_-_, _≤_}
 use lib.ListN.{length}
-use Rattle.text.specs.Lines.{argsKey}
-use Rattle.text.specs.Pairs.{countFrom}
-use Rattle.text.proofs.LineLaws.{key-fits, args-none, args-some, args-unkeyed, rest-is}
+use Rattle.spelling.specs.Lines.{argsKey}
+use Rattle.spelling.specs.Pairs.{countFrom}
+use Rattle.spelling.proofs.LineLaws.{key-fits, args-none, args-some, args-unkeyed, rest-is}
 use borrow.Author.Needs.{needs}
 use Rattle.text.proofs.lines.args_line.Statement.{statement}
 use Rattle.text.proofs.lines.args_line.Tie as tie

@@ -2,9 +2,9 @@
 use mathlib.Core.Path.{sym, ap, _∙_}
 use Prim.Native.Nat.{_≤_}
 use lib.ListN.{length}
-use Rattle.text.specs.Numbers.{spelled}
-use Rattle.text.specs.Lines.{commandKey}
-use Rattle.text.proofs.LineLaws.{key-fits, command-keyed, command-unkeyed, rest-is}
+use Rattle.spelling.specs.Numbers.{spelled}
+use Rattle.spelling.specs.Lines.{commandKey}
+use Rattle.spelling.proofs.LineLaws.{key-fits, command-keyed, command-unkeyed, rest-is}
 use borrow.Author.Needs.{needs}
 use Rattle.text.proofs.lines.command_line.Statement.{statement}
 use Rattle.text.proofs.lines.command_line.Tie as tie

@@ -1,12 +1,12 @@
 -- `text::lines::count_of` meets its contract. Assumes nothing.
-use Rattle.text.proofs.LineLaws.{next-inside}
+use Rattle.spelling.proofs.LineLaws.{next-inside}
 use mathlib.Core.Path.{_≡_, refl, sym, _∙_}
 use Prim.Native.Nat.{_-_, _≤_}
 use native.Mathlib.Omega.{arith}
 use lib.ListN.{length, drop}
-use Rattle.text.specs.Lines.{pieces, eachSpelled}
-use Rattle.text.specs.Pairs.{countFrom}
-use Rattle.text.proofs.LineLaws.{piece-inside, count-fault, count-last, count-next, count-end}
+use Rattle.spelling.specs.Lines.{pieces, eachSpelled}
+use Rattle.spelling.specs.Pairs.{countFrom}
+use Rattle.spelling.proofs.LineLaws.{piece-inside, count-fault, count-last, count-next, count-end}
 use borrow.Author.Needs.{needs}
 use Rattle.text.proofs.lines.count_of.Statement.{statement}
 use Rattle.text.proofs.lines.count_of.Tie as tie

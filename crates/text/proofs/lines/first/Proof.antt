@@ -3,8 +3,8 @@ use mathlib.Core.Path.{_≡_}
 use Prim.Native.Nat.{_+_, _-_, _≤_}
 use native.Mathlib.Omega.{arith}
 use lib.ListN.{length, drop}
-use Rattle.text.specs.Lines.{firstOf}
-use Rattle.text.proofs.LineLaws.{first-here, first-more, first-end}
+use Rattle.spelling.specs.Lines.{firstOf}
+use Rattle.spelling.proofs.LineLaws.{first-here, first-more, first-end}
 use borrow.Author.Needs.{needs}
 use Rattle.text.proofs.lines.first.Statement.{statement}
 use Rattle.text.proofs.lines.first.Tie as tie

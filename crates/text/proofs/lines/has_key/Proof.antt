@@ -3,8 +3,8 @@ use mathlib.Core.Path.{_≡_, refl, sym, _∙_}
 use Prim.Native.Nat.{_-_, _≤_}
 use native.Mathlib.Omega.{arith}
 use lib.ListN.{length, drop}
-use Rattle.text.specs.Lines.{begins}
-use Rattle.text.proofs.LineLaws.{key-short, key-differs, key-more, key-end}
+use Rattle.spelling.specs.Lines.{begins}
+use Rattle.spelling.proofs.LineLaws.{key-short, key-differs, key-more, key-end}
 use borrow.Author.Needs.{needs}
 use Rattle.text.proofs.lines.has_key.Statement.{statement}
 use Rattle.text.proofs.lines.has_key.Tie as tie

@@ -1,5 +1,5 @@
 -- `text::lines::line_end` meets its contract. Assumes nothing.
-use Rattle.text.proofs.LineLaws.{end-long, end-at, end-none}
+use Rattle.spelling.proofs.LineLaws.{end-long, end-at, end-none}
 use borrow.Author.Needs.{needs}
 use Rattle.text.proofs.lines.line_end.Statement.{statement}
 use Rattle.text.proofs.lines.line_end.Tie as tie

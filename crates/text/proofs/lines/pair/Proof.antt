@@ -6,10 +6,10 @@ use mir.Syntax.{w64}
 use mir.Val.{toZ, ofZ}
 use mir.Facts.{toZ-ofZ}
 use native.Mathlib.Numerals.{add-one}
-use Rattle.text.specs.Lines.{commandLine}
-use Rattle.text.proofs.LineLaws.{front-is, rest-is}
-use Rattle.text.proofs.Streams.{ends, at-inside}
-use Rattle.text.proofs.PairLaws.{pair-long, pair-open, pair-no-command, pair-second}
+use Rattle.spelling.specs.Lines.{commandLine}
+use Rattle.spelling.proofs.LineLaws.{front-is, rest-is}
+use Rattle.spelling.proofs.Streams.{ends, at-inside}
+use Rattle.spelling.proofs.PairLaws.{pair-long, pair-open, pair-no-command, pair-second}
 use borrow.Author.Needs.{needs}
 use Rattle.text.proofs.lines.pair.Statement.{statement}
 use Rattle.text.proofs.lines.pair.Tie as tie

@@ -1,6 +1,6 @@
 -- `text::lines::push` meets its contract. Assumes nothing.
 use mir.Facts.{toZ-ofZ}
-use Rattle.text.proofs.BufferLaws.{push-in, push-out}
+use Rattle.spelling.proofs.BufferLaws.{push-in, push-out}
 use borrow.Author.Needs.{needs}
 use Rattle.text.proofs.lines.push.Statement.{statement}
 use Rattle.text.proofs.lines.push.Tie as tie

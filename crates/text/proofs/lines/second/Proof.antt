@@ -4,11 +4,11 @@ use Prim.Native.Nat.{ℕ, _-_, _<_}
 use mathlib.Core.List.{List}
 use lib.ListN.{length}
 use mir.Facts.{toZ-ofZ}
-use Rattle.text.specs.Lines.{argsLine}
-use Rattle.text.specs.Pairs.{countFrom}
-use Rattle.text.proofs.LineLaws.{front-is}
-use Rattle.text.proofs.Streams.{ends, at-inside}
-use Rattle.text.proofs.PairLaws.{second-long, second-open, second-fault, second-full, second-pair}
+use Rattle.spelling.specs.Lines.{argsLine}
+use Rattle.spelling.specs.Pairs.{countFrom}
+use Rattle.spelling.proofs.LineLaws.{front-is}
+use Rattle.spelling.proofs.Streams.{ends, at-inside}
+use Rattle.spelling.proofs.PairLaws.{second-long, second-open, second-fault, second-full, second-pair}
 use borrow.Author.Needs.{needs}
 use Rattle.text.proofs.lines.second.Statement.{statement}
 use Rattle.text.proofs.lines.second.Tie as tie

@@ -2,15 +2,15 @@
 use mir.Syntax.{w64}
 use mir.Val.{toZ, ofZ}
 use mir.Facts.{toZ-ofZ}
-use Rattle.text.proofs.LineLaws.{next-inside}
+use Rattle.spelling.proofs.LineLaws.{next-inside}
 use mathlib.Core.Path.{_≡_, refl, sym, ap, _∙_}
 use Prim.Native.Nat.{suc, _-_, _≤_}
 use native.Mathlib.Omega.{arith}
 use lib.ListN.{length, drop}
-use Rattle.text.specs.Lines.{pieces}
-use Rattle.text.specs.Pairs.{worths}
-use Rattle.text.specs.Buffers.{buffer, put}
-use Rattle.text.proofs.LineLaws.{piece-inside, store-last, store-next}
+use Rattle.spelling.specs.Lines.{pieces}
+use Rattle.spelling.specs.Pairs.{worths}
+use Rattle.spelling.specs.Buffers.{buffer, put}
+use Rattle.spelling.proofs.LineLaws.{piece-inside, store-last, store-next}
 use borrow.Author.Needs.{needs}
 use Rattle.text.proofs.lines.store.Statement.{statement}
 use Rattle.text.proofs.lines.store.Tie as tie

@@ -1,8 +1,8 @@
 -- `text::lines::store_pair` meets its contract. Assumes nothing.
 use mathlib.Core.Path.{sym, ap, _∙_}
 use mir.Facts.{toZ-ofZ}
-use Rattle.text.specs.Buffers.{buffer}
-use Rattle.text.proofs.LineLaws.{stored-none, stored-some, rest-is}
+use Rattle.spelling.specs.Buffers.{buffer}
+use Rattle.spelling.proofs.LineLaws.{stored-none, stored-some, rest-is}
 use borrow.Author.Needs.{needs}
 use Rattle.text.proofs.lines.store_pair.Statement.{statement}
 use Rattle.text.proofs.lines.store_pair.Tie as tie

@@ -3,7 +3,7 @@ use mir.Syntax.{w64}
 use mir.Val.{toZ, ofZ}
 use mir.Facts.{toZ-ofZ}
 use mathlib.Core.Path.{_≡_}
-use Rattle.text.proofs.LineLaws.{worth-not, worth-is}
+use Rattle.spelling.proofs.LineLaws.{worth-not, worth-is}
 use borrow.Author.Needs.{needs}
 use Rattle.text.proofs.lines.worth_of.Statement.{statement}
 use Rattle.text.proofs.lines.worth_of.Tie as tie

@@ -3,8 +3,8 @@ use mathlib.Core.Path.{_≡_, refl, sym, ap, _∙_}
 use Prim.Native.Nat.{_-_, _≤_}
 use native.Mathlib.Omega.{arith}
 use lib.ListN.{length, drop}
-use Rattle.text.specs.Numbers.{digitsFrom, within}
-use Rattle.text.proofs.NumberLaws.{digit-low, digit-high, digits-none, digits-over, digits-more, digits-over-end, digits-end}
+use Rattle.spelling.specs.Numbers.{digitsFrom, within}
+use Rattle.spelling.proofs.NumberLaws.{digit-low, digit-high, digits-none, digits-over, digits-more, digits-over-end, digits-end}
 use borrow.Author.Needs.{needs}
 use Rattle.text.proofs.numbers.digits_of.Statement.{statement}
 use Rattle.text.proofs.numbers.digits_of.Tie as tie

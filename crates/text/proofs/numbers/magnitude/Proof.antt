@@ -1,7 +1,7 @@
 -- `text::numbers::magnitude` meets its contract. Assumes nothing.
 use mathlib.Core.Path.{sym, ap, _∙_}
-use Rattle.text.specs.Numbers.{within}
-use Rattle.text.proofs.NumberLaws.{natural-empty, natural-zero, natural-leads, natural-digits}
+use Rattle.spelling.specs.Numbers.{within}
+use Rattle.spelling.proofs.NumberLaws.{natural-empty, natural-zero, natural-leads, natural-digits}
 use borrow.Author.Needs.{needs}
 use Rattle.text.proofs.numbers.magnitude.Statement.{statement}
 use Rattle.text.proofs.numbers.magnitude.Tie as tie

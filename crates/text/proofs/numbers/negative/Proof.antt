@@ -2,9 +2,9 @@
 use Prim.Native.Nat.{_-_}
 use native.Mathlib.Omega.{arith}
 use mir.Facts.{toZ-ofZ}
-use Rattle.text.proofs.NumberLaws.{minus-fits, minus-word}
-use Rattle.text.proofs.NumberLaws.{minus-is, minus-zero, minus-over}
-use Rattle.text.specs.Numbers.{minus}
+use Rattle.spelling.proofs.NumberLaws.{minus-fits, minus-word}
+use Rattle.spelling.proofs.NumberLaws.{minus-is, minus-zero, minus-over}
+use Rattle.spelling.specs.Numbers.{minus}
 use borrow.Author.Needs.{needs}
 use Rattle.text.proofs.numbers.negative.Statement.{statement}
 use Rattle.text.proofs.numbers.negative.Tie as tie

@@ -1,7 +1,7 @@
 -- `text::numbers::number` meets its contract. Assumes nothing.
 use mathlib.Core.Path.{_∙_}
-use Rattle.text.proofs.NumberLaws.{spelled-empty, minus-within, spelled-minus, plus-within, spelled-plus}
-use Rattle.text.proofs.LineLaws.{rest-is}
+use Rattle.spelling.proofs.NumberLaws.{spelled-empty, minus-within, spelled-minus, plus-within, spelled-plus}
+use Rattle.spelling.proofs.LineLaws.{rest-is}
 use borrow.Author.Needs.{needs}
 use Rattle.text.proofs.numbers.number.Statement.{statement}
 use Rattle.text.proofs.numbers.number.Tie as tie

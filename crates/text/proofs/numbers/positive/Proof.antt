@@ -2,8 +2,8 @@
 use native.Mathlib.Omega.{arith}
 use mir.Syntax.{w64}
 use mir.Facts.{toZ-pos}
-use Rattle.text.proofs.NumberLaws.{plus-is, plus-over}
-use Rattle.text.specs.Numbers.{plus}
+use Rattle.spelling.proofs.NumberLaws.{plus-is, plus-over}
+use Rattle.spelling.specs.Numbers.{plus}
 use borrow.Author.Needs.{needs}
 use Rattle.text.proofs.numbers.positive.Statement.{statement}
 use Rattle.text.proofs.numbers.positive.Tie as tie
