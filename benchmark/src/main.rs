@@ -41,12 +41,12 @@ fn main() -> ExitCode {
         );
         return ExitCode::SUCCESS;
     }
-    println!("One call a command, library / original\n");
+    println!("## One call a command\n");
     println!("{}", ratios(&measured, |times| times.one_by_one));
-    println!("Nanoseconds a command\n\n{}", absolute(&measured));
-    println!("The test of full tables\n\n{}", test());
-    println!("The host's day\n\n{}", day(&measured));
-    println!("Stack\n\n{}", depths());
+    println!("## Nanoseconds a command\n\n{}", absolute(&measured));
+    println!("## The test of full tables\n\n{}", test());
+    println!("## A second of the host's day\n\n{}", day(&measured));
+    println!("## Stack\n\n{}", depths());
     ExitCode::SUCCESS
 }
 
@@ -101,7 +101,9 @@ fn test() -> Table {
 fn day(measured: &[(&str, Vec<Times>)]) -> Table {
     let (_, times) = measured.iter().find(|(name, _)| *name == DAY).expect("it is a shape");
     let at = &times[times.len() - 1];
-    let mut table = Table::new(&["A second of the day", "milliseconds", "share of one core"]);
+    let what =
+        format!("{WRITES} writes in {} commands on {} nodes", at.commands, thousands(at.nodes));
+    let mut table = Table::new(&[&what, "milliseconds", "share of one core"]);
     let mut row = |name: &str, nanos: f64| {
         table.row(vec![
             name.into(),
@@ -111,14 +113,13 @@ fn day(measured: &[(&str, Vec<Times>)]) -> Table {
     };
     row("the original", at.original);
     row("the library, one call a command", at.one_by_one);
-    println!("{WRITES} writes in {} commands on {} nodes", at.commands, thousands(at.nodes));
     table
 }
 
 fn depths() -> Table {
     let mut table = Table::new(&["The call that goes deepest", "bytes"]);
     for (name, bytes) in stack::depths() {
-        table.row(vec![name, thousands(bytes)]);
+        table.row(vec![name.into(), thousands(bytes)]);
     }
     table
 }

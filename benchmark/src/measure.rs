@@ -17,13 +17,13 @@ pub struct Pains {
     pub sample: Duration,
     /// Samples of the original and of whole scripts.
     pub samples: usize,
-    /// Samples with one call a command, which take longer.
+    /// Samples with one call a command, which take longer; each turn of them is timed.
     pub slow_samples: usize,
 }
 
 impl Pains {
     pub const FULL: Pains =
-        Pains { sample: Duration::from_micros(300), samples: 60, slow_samples: 4 };
+        Pains { sample: Duration::from_micros(300), samples: 60, slow_samples: 10 };
     pub const QUICK: Pains =
         Pains { sample: Duration::from_micros(1), samples: 3, slow_samples: 2 };
 }
@@ -83,8 +83,10 @@ pub fn measure(name: &str, size: usize, work: &Work, pains: Pains) -> Times {
         let taken = clock(|| original.run(times, black_box(&mut theirs)));
         least.original = least.original.min(per_turn(taken));
         if sample < pains.slow_samples {
-            let taken = clock(|| run(&mut lent, times, black_box(&mut ours)));
-            least.one_by_one = least.one_by_one.min(per_turn(taken));
+            for _ in 0..times {
+                let taken = clock(|| run(&mut lent, 1, black_box(&mut ours)));
+                least.one_by_one = least.one_by_one.min(taken.as_nanos() as f64);
+            }
             same(name, size, theirs, ours);
         }
     }

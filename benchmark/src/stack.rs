@@ -21,20 +21,16 @@ const HEIGHT: usize = 64;
 const OWNERS: usize = 16;
 
 /// A name, and the bytes of stack below the caller.
-pub type Depth = (String, usize);
+pub type Depth = (&'static str, usize);
 
-/// All that is measured, the test of the tables first.
+/// All that is measured, the test of the tables first. A formula nests in sums or in choices; what takes most of these counts.
 pub fn depths() -> Vec<Depth> {
-    let shapes: [(&str, fn(Formula) -> Formula); 3] = [
-        ("in sums", |inner| sum(inner, 1)),
-        ("in the branch of a choice", |inner| choose(1, inner, 0)),
-        ("in the condition of a choice", |inner| choose(inner, 2, 1)),
-    ];
-    let mut found = vec![("the test of the tables alone".to_string(), refused())];
-    for (name, nest) in shapes {
-        for (what, bytes) in chain(nest) {
-            found.push((format!("{what}, read {name}"), bytes));
-        }
+    let nestings: [fn(Formula) -> Formula; 3] =
+        [|inner| sum(inner, 1), |inner| choose(1, inner, 0), |inner| choose(inner, 2, 1)];
+    let mut found = vec![("the test of the tables alone", refused())];
+    let [sums, branches, conditions] = nestings.map(chain);
+    for ((a, b), c) in sums.into_iter().zip(branches).zip(conditions) {
+        found.push((a.0, a.1.max(b.1).max(c.1)));
     }
     found
 }
@@ -46,7 +42,7 @@ fn refused() -> usize {
 
 /// A signal, computeds one over the other as high as they may be, each read as deep in the next one's formula as it may be, and an effect
 /// below as many owners as there may be, which reads the last computed only while a switch is not 0.
-fn chain(nest: fn(Formula) -> Formula) -> [(&'static str, usize); 4] {
+fn chain(nest: fn(Formula) -> Formula) -> [Depth; 4] {
     let nested = |node: Node| (1..NESTING).fold(node.into(), |inner, _| nest(inner));
     let mut commands = vec![Command::Signal { value: 1 }, Command::Signal { value: 0 }];
     let (head, switch) = (Node(0), Node(1));
