@@ -41,6 +41,8 @@ fn main() -> ExitCode {
         );
         return ExitCode::SUCCESS;
     }
+    println!("## Inside one call\n");
+    println!("{}", ratios(&measured, |times| times.script));
     println!("## One call a command\n");
     println!("{}", ratios(&measured, |times| times.one_by_one));
     println!("## Nanoseconds a command\n\n{}", absolute(&measured));
@@ -70,8 +72,14 @@ fn ratios(measured: &[(&str, Vec<Times>)], ours: fn(&Times) -> f64) -> Table {
 
 /// Times a command at the least and the greatest size.
 fn absolute(measured: &[(&str, Vec<Times>)]) -> Table {
-    let mut table =
-        Table::new(&["Shape", "nodes", "commands a turn", "original", "one call a command"]);
+    let mut table = Table::new(&[
+        "Shape",
+        "nodes",
+        "commands a turn",
+        "original",
+        "inside one call",
+        "one call a command",
+    ]);
     for (name, times) in measured {
         for at in [&times[0], &times[times.len() - 1]] {
             let each = |turn: f64| thousands((turn / at.commands as f64).round() as usize);
@@ -80,6 +88,7 @@ fn absolute(measured: &[(&str, Vec<Times>)]) -> Table {
                 thousands(at.nodes),
                 at.commands.to_string(),
                 each(at.original),
+                each(at.script),
                 each(at.one_by_one),
             ]);
         }
@@ -112,6 +121,7 @@ fn day(measured: &[(&str, Vec<Times>)]) -> Table {
         ]);
     };
     row("the original", at.original);
+    row("the library, one call a second", at.script + at.test);
     row("the library, one call a command", at.one_by_one);
     table
 }
