@@ -1,11 +1,12 @@
 -- The walk of propagate, turn by turn, as the code takes it. Assumes nothing.
-use mathlib.Core.Path.{_≡_, refl, _∙_}
+use mathlib.Core.Path.{_≡_, refl, sym, ap, subst, _∙_}
 use mathlib.Core.Bool.{true, false}
 use mathlib.Core.List.{List}
 use Prim.Native.Nat.{ℕ, zero, suc, _-_, _<_, _≤_}
 use native.Mathlib.Numerals.{sub-one}
 use native.Mathlib.Omega.{arith}
-use lib.ListN.{getD}
+use lib.ListN.{getD, set, replicate}
+use lib.Seq.{set-getD}
 use Rattle.primitive.specs.Slots.{slotOf}
 use Rattle.primitive.specs.Stack.{pushed, pushedLen, popped}
 use Rattle.primitive.specs.declared.slots.Slot.{Slot}
@@ -99,3 +100,18 @@ pub pop-less : (A : List ℕ) (len : ℕ) {t : Popped} {w rest : ℕ} → t ≡ 
 unfolding popped
 pop-less A zero e d = let z : _≡_ {A = ℕ} 0 1 = cc in absurd (omega arith)
 pop-less A (suc n) {t} {w} {rest} e d = let b : rest ≡ n = cc in omega arith
+
+-- ---- a stack of nothing: one more on it changes no word, and from it no way goes back
+clear : (k x : ℕ) → _≡_ {A = ℕ} (getD {A = ℕ} (replicate k 0) x 0) 0
+clear zero x = refl
+clear (suc k) zero = refl
+clear (suc k) (suc x) = clear k x
+
+pub push-nothing : (k len : ℕ) → pushed (replicate k 0) len 0 ≡ replicate k 0
+push-nothing k len = ap (λ (w : ℕ). set {A = ℕ} (replicate k 0) len w) (sym (clear k len)) ∙ set-getD (replicate k 0) len 0
+
+pub back-nothing : (p : Rest) (L N : List ℕ) (k len : ℕ) → back p L N (replicate k 0) len ≡ N
+unfolding back
+back-nothing p L N k zero = refl
+back-nothing p L N k (suc n) =
+    subst (λ (w : ℕ). elim (slotOf w) [ At x ↦ p N (place x (nextSub L x) (replicate k 0) n) | Nothing ↦ back p L N (replicate k 0) n ] ≡ N) (sym (clear k n)) (back-nothing p L N k n)

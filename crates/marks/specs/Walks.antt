@@ -63,5 +63,9 @@ unfoldable pub walked : List ℕ → ℕ → List ℕ → Place → List ℕ
 walked L zero N w = N
 walked L (suc k) N w = turn (walked L k) L N w (sub L (w .link))
 
+-- a stack with nothing on it
+abbrev pub blank : List ℕ
+blank = replicate 1024 0
+
 unfoldable pub propagated : List ℕ → List ℕ → ℕ → List ℕ
-propagated L N s = walked L (linkRows L) N (place s (nextSub L s) (replicate 1024 0) 0)
+propagated L N s = walked L (linkRows L) N (place s (nextSub L s) blank 0)

@@ -18,7 +18,8 @@ use primitive::words;
 ghost use mathlib.Core.Path.{_≡_};
 ghost use Rattle.marks.specs.Valid.{validLink};
 ghost use Rattle.marks.specs.Visits.{visit, after, stored, reached};
-ghost use Rattle.marks.specs.Walks.{below, propagated};
+ghost use Rattle.primitive.specs.Stack.{pushed, pushedLen};
+ghost use Rattle.marks.specs.Walks.{place, below, walked, blank, propagated};
 ghost use Rattle.marks.specs.Shallow.{dirtied, shallow};
 
 // Flags that are tested together.
@@ -107,15 +108,23 @@ fn below(nodes: &[u64], sub: u64, flags: Flags) -> Slot
     Slot::Nothing
 }
 
-// From slot s: down where there is a way, else along, else back to what was left aside on the way down.
-pub fn propagate(nodes: &mut [u64], links: &[u64], s: u64)
-    ensures { λ _. ⌜ now (nodes .exit) ≡ propagated (now (links .entry)) (now (nodes .entry)) s ⌝ }
+// The walk from slot s on, once a word is left aside on the way down: it lies on so many words that are nothing.
+fn propagate_on(
+    nodes: &mut [u64],
+    links: &[u64],
+    s: u64,
+    over: u64,
+    aside: u64,
+    deep: u64,
+    turns: usize,
+)
+    ensures { λ _. ⌜ now (nodes .exit) ≡ walked (now (links .entry)) turns (now (nodes .entry)) (place s over (pushed blank deep aside) (pushedLen blank deep)) ⌝ }
 {
     let mut link = s;
-    let mut next = words::get(links, LINK, s, NEXT_SUB);
+    let mut next = over;
     let mut stack = [0u64; 1024];
-    let mut len: u64 = 0;
-    let mut left = links.len() / 8;
+    let mut len = stack::push(&mut stack, deep, aside);
+    let mut left = turns;
     'top: while 0 < left {
         left -= 1;
         let sub = words::get(links, LINK, link, SUB);
@@ -143,6 +152,48 @@ pub fn propagate(nodes: &mut [u64], links: &[u64], s: u64)
             continue 'top;
         };
         len = stack::push(&mut stack, len, next);
+        next = over;
+    }
+}
+
+// How high a stack of nothing is with one more on it.
+fn one_higher(len: u64) -> u64
+    ensures { λ r. ⌜ r ≡ pushedLen blank len ⌝ }
+{
+    if len < 1024 { len + 1 } else { len }
+}
+
+// From slot s: down where there is a way, else along, else back to what was left aside on the way down. As long as that is nothing, only its height is kept, and no
+// stack is cleared.
+pub fn propagate(nodes: &mut [u64], links: &[u64], s: u64)
+    ensures { λ _. ⌜ now (nodes .exit) ≡ propagated (now (links .entry)) (now (nodes .entry)) s ⌝ }
+{
+    let mut link = s;
+    let mut next = words::get(links, LINK, s, NEXT_SUB);
+    let mut len: u64 = 0;
+    let mut left = links.len() / 8;
+    while 0 < left {
+        left -= 1;
+        let sub = words::get(links, LINK, link, SUB);
+        let flags = reach(nodes, links, link, sub);
+        let Slot::At(down) = below(nodes, sub, flags) else {
+            let Slot::At(along) = slots::open(next) else {
+                return;
+            };
+            link = along;
+            next = words::get(links, LINK, along, NEXT_SUB);
+            continue;
+        };
+        let over = words::get(links, LINK, down, NEXT_SUB);
+        link = down;
+        let Slot::At(_) = slots::open(over) else {
+            continue;
+        };
+        if next != 0 {
+            propagate_on(nodes, links, down, over, next, len, left);
+            return;
+        }
+        len = one_higher(len);
         next = over;
     }
 }
