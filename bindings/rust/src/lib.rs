@@ -42,12 +42,14 @@
 //! ```
 
 mod answer;
+mod answers;
 mod command;
 mod formula;
 mod refusal;
 mod tables;
 
 pub use answer::{Answer, Run};
+pub use answers::Answers;
 pub use command::{Command, Node};
 pub use formula::{Formula, choose, constant, difference, less, maximum, minimum, read, sum};
 pub use refusal::Refusal;

@@ -1,3 +1,4 @@
 pub mod Codes
 pub mod Fit
+pub mod ManyReplies
 pub mod Replies

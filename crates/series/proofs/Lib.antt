@@ -1,0 +1,3 @@
+pub mod ListLaws
+pub mod StepLaws
+pub mod SeriesLaws
