@@ -20,7 +20,8 @@ impl<'a> Answers<'a> {
     pub fn iter(&self) -> impl Iterator<Item = Result<Answer<'a>, Refusal>> + use<'a> {
         let mut rows = self.rows;
         self.answers.iter().map(move |&[code, value, runs]| {
-            let (own, rest) = rows.split_at(usize::try_from(runs).expect("runs are counted from 0"));
+            let (own, rest) =
+                rows.split_at(usize::try_from(runs).expect("runs are counted from 0"));
             rows = rest;
             match Refusal::of(u64::try_from(code).expect("a code is 0 or a refusal")) {
                 None => Ok(Answer { value, rows: own }),

@@ -54,3 +54,17 @@ words-inside (x ∷ rest) k e = let h = go (naturalOf x) e in omega arith
     go : (m : Number) → wordsOf m (length rest) ≡ Words k → k ≤ length rest
     go None e = let z : _≡_ {A = ℕ} 0 1 = cc in absurd (omega arith)
     go (Is j) e = within j (leb j (length rest)) refl e
+
+-- the list is over only where no word is left
+pub over-empty : (list : List ℤ) → nextIn list ≡ Over → length list ≡ 0
+unfolding nextIn wordsOf
+over-empty [] e = refl
+over-empty (x ∷ rest) e = go (naturalOf x) e
+  where
+    within : (j : ℕ) (b : Bool) → elim b [ true ↦ Words j | false ↦ Bad ] ≡ Over → length (x ∷ rest) ≡ 0
+    within j true e = let z : _≡_ {A = ℕ} 0 1 = cc in absurd (omega arith)
+    within j false e = let z : _≡_ {A = ℕ} 0 1 = cc in absurd (omega arith)
+
+    go : (m : Number) → wordsOf m (length rest) ≡ Over → length (x ∷ rest) ≡ 0
+    go None e = let z : _≡_ {A = ℕ} 0 1 = cc in absurd (omega arith)
+    go (Is j) e = within j (leb j (length rest)) e

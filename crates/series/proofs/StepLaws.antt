@@ -52,27 +52,36 @@ module _ (f : List ℤ → Answered) (n l : List ℕ) (v c g list y : List ℤ) 
       unfolding stepBy
       answered-so h r = let q : nextIn list ≡ next.Words k = sym found ∙ e in rw (q, stepBy, le-leb _ _ h, ne-eqb _ _ r)
 
-  -- nothing was done, or one command
-  pub step-cases : (P : Stepped → Type 0) → ((w : Why) → P (stepped (Stopped w) n l v c g y)) → ((k : ℕ) → nextIn list ≡ next.Words k → answerWords ≤ length y → P (doneBy k (f (firstOf k list)) y)) → P (stepBy f n l v c g list y)
+  -- nothing was done, or one command; and the list is over only where nothing is left
+  pub step-cases : (P : Stepped → Type 0) → ((w : Why) → (w ≡ why.Over → nextIn list ≡ next.Over) → P (stepped (Stopped w) n l v c g y)) → ((k : ℕ) → nextIn list ≡ next.Words k → answerWords ≤ length y → P (doneBy k (f (firstOf k list)) y)) → P (stepBy f n l v c g list y)
   step-cases P stop go = on (nextIn list) refl
     where
+      other : {A : Type 0} → _≡_ {A = ℕ} 0 1 → A
+      other z = absurd (omega arith)
+
       coded : (k : ℕ) → nextIn list ≡ next.Words k → answerWords ≤ length y → (b : Bool) → eqb (f (firstOf k list) .code) shortLog ≡ b → P (stepBy f n l v c g list y)
-      coded k e h true r = subst P (few-rows refl k e h (eqb-true _ _ r)) (stop why.Rows)
+      coded k e h true r = subst P (few-rows refl k e h (eqb-true _ _ r)) (stop why.Rows (λ z. other cc))
       coded k e h false r = subst P (answered-so refl k e h (eqb-false _ _ r)) (go k e h)
 
       room : (k : ℕ) → nextIn list ≡ next.Words k → (b : Bool) → leb answerWords (length y) ≡ b → P (stepBy f n l v c g list y)
       room k e true r = coded k e (leb-true _ _ r) (eqb (f (firstOf k list) .code) shortLog) refl
-      room k e false r = subst P (no-room refl k e (leb-false _ _ r)) (stop why.Answers)
+      room k e false r = subst P (no-room refl k e (leb-false _ _ r)) (stop why.Answers (λ z. other cc))
 
       on : (x : Next) → nextIn list ≡ x → P (stepBy f n l v c g list y)
-      on next.Over e = subst P (at-end refl e) (stop why.Over)
-      on next.Bad e = subst P (at-bad refl e) (stop why.List)
+      on next.Over e = subst P (at-end refl e) (stop why.Over (λ z. e))
+      on next.Bad e = subst P (at-bad refl e) (stop why.List (λ z. other cc))
       on (next.Words k) e = room k e (leb answerWords (length y)) refl
 
   pub stopped-is : (w : Why) → stepBy f n l v c g list y .step ≡ Stopped w → stepBy f n l v c g list y ≡ stepped (Stopped w) n l v c g y
   stopped-is w =
       step-cases (λ (t : Stepped). t .step ≡ Stopped w → t ≡ stepped (Stopped w) n l v c g y)
-      (λ u e. ap (λ (s : Step). stepped s n l v c g y) e)
+      (λ u h e. ap (λ (s : Step). stepped s n l v c g y) e)
+      (λ k e h z. let q : _≡_ {A = ℕ} 0 1 = cc in absurd (omega arith))
+
+  pub over-is : stepBy f n l v c g list y .step ≡ Stopped why.Over → nextIn list ≡ next.Over
+  over-is =
+      step-cases (λ (t : Stepped). t .step ≡ Stopped why.Over → nextIn list ≡ next.Over)
+      (λ u h e. let q : u ≡ why.Over = cc in h q)
       (λ k e h z. let q : _≡_ {A = ℕ} 0 1 = cc in absurd (omega arith))
 
   -- of a step that was done
@@ -86,7 +95,7 @@ module _ (f : List ℤ → Answered) (n l : List ℕ) (v c g list y : List ℤ) 
 
   pub done-is : (words runs : ℕ) → stepBy f n l v c g list y .step ≡ Done words runs → Was words runs
   done-is words runs = step-cases (λ (t : Stepped). t ≡ stepBy f n l v c g list y → t .step ≡ Done words runs → Was words runs)
-      (λ u q e. let q : _≡_ {A = ℕ} 0 1 = cc in absurd (omega arith))
+      (λ u i q e. let q : _≡_ {A = ℕ} 0 1 = cc in absurd (omega arith))
       (λ k e h q z. let a : words ≡ k + 1 = cc in let b : runs ≡ f (firstOf k list) .runs = cc in record { k = k; here = e; room = h; words-are = a; runs-are = b; came = sym q })
       refl
 
