@@ -123,6 +123,41 @@ uint64_t simmer_command(uint64_t *nodes, size_t nodes_len,
                         const int64_t *words, size_t words_len,
                         int64_t *reply, size_t reply_len);
 
+/* ---- Many commands ---- */
+
+/*
+ * A list has for each command the number of its words, then these. So 3 5 1 700 2 7 4 is a set of signal 1 to 700, then a read of
+ * node 4. An answer is SIMMER_ANSWER words: code, value, number of runs. The rows of all commands stand one after another.
+ */
+#define SIMMER_ANSWER 3
+
+/* The reply to many commands: the first four words are written, the others are spare. */
+#define SIMMER_REPLY_WHY 0  /* why it stopped, one of the four below                                             */
+#define SIMMER_REPLY_USED 1 /* words of the list that are done with: go on from there                            */
+#define SIMMER_REPLY_DONE 2 /* commands that were answered, refusals too: so many answers are written            */
+#define SIMMER_REPLY_ROWS 3 /* rows that they wrote, together                                                    */
+
+#define SIMMER_ALL_DONE 0     /* the list is over                                                                */
+#define SIMMER_BAD_LIST 1     /* the next word of the list is below 0, or more words than are left               */
+#define SIMMER_FULL_ANSWERS 2 /* no room for one more answer                                                     */
+#define SIMMER_FULL_ROWS 3    /* the next command is refused for too few log rows alone, and was not answered    */
+
+/*
+ * Commands on lent tables, one after another, until one of the four says stop. Each is answered as simmer_command answers it, given
+ * what is left of the rows as its log; but all of the tables are tested once, and not for each command. What it stopped before has
+ * changed nothing: take the answers and the rows, and go on with the rest of the list. If it stops with SIMMER_FULL_ROWS and nothing
+ * done, the rows are too few for that command alone. Answers one of the four (the reply's first word is the same), or
+ * SIMMER_SHORT_REPLY.
+ */
+uint64_t simmer_commands(uint64_t *nodes, size_t nodes_len,
+                         uint64_t *links, size_t links_len,
+                         int64_t *values, size_t values_len,
+                         int64_t *cells, size_t cells_len,
+                         int64_t *rows, size_t rows_len,
+                         const int64_t *list, size_t list_len,
+                         int64_t *answers, size_t answers_len,
+                         int64_t *reply, size_t reply_len);
+
 #ifdef __cplusplus
 }
 #endif

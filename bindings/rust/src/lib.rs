@@ -45,6 +45,7 @@
 //! ```
 
 mod answer;
+mod answers;
 mod command;
 mod formula;
 mod record;
@@ -54,6 +55,7 @@ mod script;
 mod tables;
 
 pub use answer::{Answer, Run};
+pub use answers::Answers;
 pub use command::{Command, Node};
 pub use formula::{Formula, choose, constant, difference, less, maximum, minimum, read, sum};
 pub use record::{Flags, Kind, Record};

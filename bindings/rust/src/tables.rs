@@ -2,7 +2,7 @@
 
 use crate::record::{node, size};
 use crate::rows::*;
-use crate::{Answer, Command, Formula, Kind, Node, Record, Refusal};
+use crate::{Answer, Answers, Command, Formula, Kind, Node, Record, Refusal};
 
 mod library {
     //! `include/simmerthread.h`: a slice is a pointer and a length in words.
@@ -23,11 +23,21 @@ mod library {
             log: *mut i64, log_len: usize, words: *const i64, words_len: usize,
             reply: *mut i64, reply_len: usize,
         ) -> u64;
+        pub fn simmer_commands(
+            nodes: *mut u64, nodes_len: usize, links: *mut u64, links_len: usize,
+            values: *mut i64, values_len: usize, cells: *mut i64, cells_len: usize,
+            rows: *mut i64, rows_len: usize, list: *const i64, list_len: usize,
+            answers: *mut i64, answers_len: usize, reply: *mut i64, reply_len: usize,
+        ) -> u64;
     }
 }
 
-/// Words of a reply: code, value, number of runs, and spare ones.
+/// Words of a reply, spare ones among them: code, value, number of runs; or of many commands why it stopped, words used, commands
+/// done, rows written.
 const REPLY: usize = 8;
+
+/// Words of one of many answers: code, value, number of runs.
+const ANSWER: usize = 3;
 
 /// How much the tables hold. Nothing grows: what is full is [`Refusal::Room`] or [`Refusal::Rows`].
 #[derive(Clone, Copy, Debug, PartialEq, Eq, Hash)]
@@ -85,6 +95,9 @@ pub struct Tables {
     log: Box<[i64]>,
     /// The words of the command being sent, kept for their room.
     words: Vec<i64>,
+    /// Those of many commands, each behind its number of words, and their answers.
+    list: Vec<i64>,
+    answers: Vec<i64>,
 }
 
 impl Tables {
@@ -103,6 +116,8 @@ impl Tables {
             cells: words(library::simmer_cell_words, room.cells)?,
             log: words(library::simmer_log_words, room.rows)?,
             words: Vec::new(),
+            list: Vec::new(),
+            answers: Vec::new(),
         };
         tables.empty();
         Some(tables)
@@ -150,6 +165,75 @@ impl Tables {
         self.words = words;
         let (value, runs) = called?;
         Ok(self.answer(value, runs))
+    }
+
+    /// Sends many commands, one after another; the tables are tested once for all of them. Each is answered as it would have been
+    /// alone, refusals too, until the list is over or the next command wants more rows than the log has left. Then take the runs and
+    /// send the others. Where none was done, the whole log is too short for the first of them: alone it would be [`Refusal::Rows`].
+    ///
+    /// ```
+    /// use simmerthread::{Command, Node, Refusal, Room, Tables, read};
+    /// let mut tables = Tables::new(Room { rows: 2, ..Room::PROGRAM }).unwrap();
+    /// let (sale, payout) = (Node(0), Node(1));
+    /// let commands = [
+    ///     Command::Signal { value: 5 },
+    ///     Command::Effect { owner: None, formula: read(sale) },
+    ///     Command::Dispose { node: sale },
+    ///     Command::Set { node: sale, value: 7 },
+    ///     Command::Set { node: sale, value: 8 },
+    /// ];
+    ///
+    /// // Two rows are written, and the last command wants a third.
+    /// let answers = tables.commands(&commands);
+    /// assert_eq!(answers.done(), 4);
+    /// let answers: Vec<_> = answers.iter().collect();
+    /// assert_eq!(answers[1].unwrap().node(), payout);
+    /// assert_eq!(answers[2], Err(Refusal::Node));
+    /// assert_eq!(answers[3].unwrap().runs().next().unwrap().value, 7);
+    ///
+    /// // With the log to itself again it is done.
+    /// let answers = tables.commands(&commands[4..]);
+    /// assert_eq!(answers.iter().next().unwrap()?.runs().next().unwrap().value, 8);
+    /// # Ok::<(), Refusal>(())
+    /// ```
+    pub fn commands(&mut self, commands: &[Command]) -> Answers<'_> {
+        self.list.clear();
+        for command in commands {
+            command.write_words(&mut self.words);
+            let length = i64::try_from(self.words.len()).expect("a list is shorter than that");
+            self.list.push(length);
+            self.list.extend(&self.words);
+        }
+        self.answers.clear();
+        self.answers.resize(commands.len() * ANSWER, 0);
+        let mut reply = [0; REPLY];
+        // SAFETY: as in `call`; the list and the answers are other words of `self`, and distinct.
+        unsafe {
+            library::simmer_commands(
+                self.nodes.as_mut_ptr(),
+                self.nodes.len(),
+                self.links.as_mut_ptr(),
+                self.links.len(),
+                self.values.as_mut_ptr(),
+                self.values.len(),
+                self.cells.as_mut_ptr(),
+                self.cells.len(),
+                self.log.as_mut_ptr(),
+                self.log.len(),
+                self.list.as_ptr(),
+                self.list.len(),
+                self.answers.as_mut_ptr(),
+                self.answers.len(),
+                reply.as_mut_ptr(),
+                reply.len(),
+            )
+        };
+        let [_, _, done, rows, ..] = reply;
+        let counted = |n: i64| usize::try_from(n).expect("commands and rows are counted from 0");
+        Answers {
+            answers: &self.answers.as_chunks().0[..counted(done)],
+            rows: &self.log.as_chunks().0[..counted(rows)],
+        }
     }
 
     /// The value returned, and how many rows of the log were written.

@@ -27,7 +27,7 @@ use Rattle.operations.specs.Log.{Ran, ranTo, numberWord}
 use Rattle.making.specs.Making.{Made}
 use Rattle.engine.specs.Tables.{wellFormedIn}
 use Rattle.engine.specs.Perform.{Done, done, ownerWord, numbered, performed}
-use Rattle.engine.specs.Command.{Answered, answered, accepted, refused, refusalIn, answer, commandIn}
+use Rattle.engine.specs.Command.{Answered, accepted, refused, refusalOn, refusalIn, answer, commandOn, commandIn}
 
 -- ---- numbers of nodes and owners
 module _ (k : ℤ) {r : Number} (found : r ≡ naturalOf k) where
@@ -57,28 +57,36 @@ module _ (n l : List ℕ) (v c : List ℤ) {d : Bool} (e : d ≡ describedIn n l
   described-not h = let z : describedIn n l v c ≡ false = sym e ∙ h in rw (z, wellFormedIn)
 
 -- ---- the decision
-module _ (n l : List ℕ) (v c g ws : List ℤ) {b : Bool} (e : b ≡ wellFormedIn n l v c) where
-  pub decided : {r : ℕ} → b ≡ true → r ≡ refusal true (sightIn n l c (length g / 2)) ws → r ≡ refusalIn n l v c g ws
-  unfolding refusalIn
-  decided h q = let z : wellFormedIn n l v c ≡ true = sym e ∙ h in rw (z, refusalIn) q
+module _ (n l : List ℕ) (c g ws : List ℤ) (b : Bool) where
+  pub decided : {r : ℕ} → b ≡ true → r ≡ refusal true (sightIn n l c (length g / 2)) ws → r ≡ refusalOn b n l c g ws
+  decided h q = rw h q
 
-  pub not-tables : b ≡ false → 1 ≡ refusalIn n l v c g ws
-  unfolding refusalIn refusal table first
-  not-tables h = let z : wellFormedIn n l v c ≡ false = sym e ∙ h in rw (z, refusalIn)
+  pub not-tables : b ≡ false → 1 ≡ refusalOn b n l c g ws
+  unfolding refusal table first
+  not-tables h = rw h
+
+pub refusal-tested : (n l : List ℕ) (v c g ws : List ℤ) (b : Bool) {r : ℕ} → b ≡ wellFormedIn n l v c → r ≡ refusalOn b n l c g ws → r ≡ refusalIn n l v c g ws
+unfolding refusalIn
+refusal-tested n l v c g ws b e q = q ∙ ap (λ (b : Bool). refusalOn b n l c g ws) e
 
 -- ---- the answer
-module _ (n l : List ℕ) (v c g ws : List ℤ) {r : ℕ} (e : r ≡ refusalIn n l v c g ws) where
-  refused-by : (k : ℕ) → k ≡ refusalIn n l v c g ws → (k ≡ 0 → ⊥) → refused k n l v c g ≡ commandIn n l v c g ws
-  unfolding commandIn answer
-  refused-by zero q f = absurd (f refl)
-  refused-by (suc k) q f = rw (← q, commandIn, answer)
+module _ (n l : List ℕ) (v c g ws : List ℤ) (b : Bool) {r : ℕ} (e : r ≡ refusalOn b n l c g ws) where
+  refused-by : (k : ℕ) → (k ≡ 0 → ⊥) → refused k n l v c g ≡ answer k n l v c g ws
+  unfolding answer
+  refused-by zero f = absurd (f refl)
+  refused-by (suc k) f = refl
 
-  pub command-refused : (r ≡ 0 → ⊥) → refused r n l v c g ≡ commandIn n l v c g ws
-  command-refused f = refused-by r e f
+  pub command-refused : (r ≡ 0 → ⊥) → refused r n l v c g ≡ commandOn b n l v c g ws
+  command-refused f = refused-by r f ∙ ap (λ (k : ℕ). answer k n l v c g ws) e
 
-  pub command-done : {d : Done} → r ≡ 0 → d ≡ performed (state n l v) c g (brief (commandOf ws)) (formulaIn ws) → accepted d ≡ commandIn n l v c g ws
-  unfolding commandIn answer
-  command-done h q = let z : refusalIn n l v c g ws ≡ 0 = sym e ∙ h in rw (z, commandIn, answer) (ap accepted q)
+  pub command-done : {d : Done} → r ≡ 0 → d ≡ performed (state n l v) c g (brief (commandOf ws)) (formulaIn ws) → accepted d ≡ commandOn b n l v c g ws
+  unfolding answer
+  command-done h q = ap accepted q ∙ ap (λ (k : ℕ). answer k n l v c g ws) (sym h ∙ e)
+
+-- the test decides whether they are well formed
+pub command-tested : (n l : List ℕ) (v c g ws : List ℤ) (b : Bool) {a : Answered} → b ≡ wellFormedIn n l v c → a ≡ commandOn b n l v c g ws → a ≡ commandIn n l v c g ws
+unfolding commandIn refusalIn
+command-tested n l v c g ws b e q = q ∙ ap (λ (b : Bool). commandOn b n l v c g ws) e
 
 -- ---- doing
 pub numbered-by : (l : List ℤ) {m o : Made} {x : ℤ} → m ≡ o → x ≡ numberWord (m .number) → done x (ranTo (m .after) l 0) (m .cells) ≡ numbered l o

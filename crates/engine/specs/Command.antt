@@ -28,9 +28,12 @@ pub record Answered : Type 0 where
 abbrev pub answered : ℕ → ℤ → ℕ → List ℕ → List ℕ → List ℤ → List ℤ → List ℤ → Answered
 answered r x k n l v c g = record { code = r; value = x; runs = k; nodes = n; links = l; values = v; cells = c; log = g }
 
--- the first row of document 01's table that holds, or 0
+-- the first row of document 01's table that holds, or 0; of tables that are well formed or not
+abbrev pub refusalOn : Bool → List ℕ → List ℕ → List ℤ → List ℤ → List ℤ → ℕ
+refusalOn formed n l c g ws = refusal formed (sightIn n l c (length g / rowWords)) ws
+
 unfoldable pub refusalIn : List ℕ → List ℕ → List ℤ → List ℤ → List ℤ → List ℤ → ℕ
-refusalIn n l v c g ws = refusal (wellFormedIn n l v c) (sightIn n l c (length g / rowWords)) ws
+refusalIn n l v c g ws = refusalOn (wellFormedIn n l v c) n l c g ws
 
 -- accepted: what was done, and the rows it wrote are the runs
 abbrev pub accepted : Done → Answered
@@ -47,3 +50,7 @@ answer (suc r) n l v c g ws = refused (suc r) n l v c g
 
 unfoldable pub commandIn : List ℕ → List ℕ → List ℤ → List ℤ → List ℤ → List ℤ → Answered
 commandIn n l v c g ws = answer (refusalIn n l v c g ws) n l v c g ws
+
+-- the same, where it is known whether the tables are well formed
+abbrev pub commandOn : Bool → List ℕ → List ℕ → List ℤ → List ℤ → List ℤ → List ℤ → Answered
+commandOn formed n l v c g ws = answer (refusalOn formed n l c g ws) n l v c g ws

@@ -5,13 +5,30 @@ use refusals::asks::cells_from;
 use refusals::commands::command_of;
 use refusals::table;
 ghost use mathlib.Core.Path.{_≡_};
-ghost use Rattle.engine.specs.Command.{refusalIn, answered, commandIn};
+ghost use Rattle.engine.specs.Command.{answered, refusalOn, refusalIn, commandOn, commandIn};
 
 // A refusal has value 0 and runs 0.
 pub struct Answer {
     pub code: u64,
     pub value: i64,
     pub runs: u64,
+}
+
+// The first of the nine refusals that applies, or 0, where it is known whether the tables are well formed.
+pub fn refusal_on(
+    nodes: &[u64],
+    links: &[u64],
+    cells: &[i64],
+    log: &[i64],
+    words: &[i64],
+    formed: bool,
+) -> u64
+    ensures { λ r. ⌜ r ≡ refusalOn formed (now (nodes .entry)) (now (links .entry)) (now (cells .entry)) (now (log .entry)) (now (words .entry)) ⌝ }
+{
+    if formed {
+        return table::refusal(nodes, links, cells, (log.len() / 2) as u64, words);
+    }
+    1
 }
 
 // The first of the nine refusals that applies, or 0.
@@ -25,24 +42,24 @@ pub fn refusal(
 ) -> u64
     ensures { λ r. ⌜ r ≡ refusalIn (now (nodes .entry)) (now (links .entry)) (now (values .entry)) (now (cells .entry)) (now (log .entry)) (now (words .entry)) ⌝ }
 {
-    if well_formed(nodes, links, values, cells) {
-        return table::refusal(nodes, links, cells, (log.len() / 2) as u64, words);
-    }
-    1
+    let formed = well_formed(nodes, links, values, cells);
+    refusal_on(nodes, links, cells, log, words, formed)
 }
 
+// One command, where it is known whether the tables are well formed.
 // Refused, it changes nothing. Accepted, it is done, and its runs are the first rows of the log.
-pub fn command(
+pub fn command_on(
     nodes: &mut [u64],
     links: &mut [u64],
     values: &mut [i64],
     cells: &mut [i64],
     log: &mut [i64],
     words: &[i64],
+    formed: bool,
 ) -> Answer
-    ensures { λ r. ⌜ answered (r .code) (r .value) (r .runs) (now (nodes .exit)) (now (links .exit)) (now (values .exit)) (now (cells .exit)) (now (log .exit)) ≡ commandIn (now (nodes .entry)) (now (links .entry)) (now (values .entry)) (now (cells .entry)) (now (log .entry)) (now (words .entry)) ⌝ }
+    ensures { λ r. ⌜ answered (r .code) (r .value) (r .runs) (now (nodes .exit)) (now (links .exit)) (now (values .exit)) (now (cells .exit)) (now (log .exit)) ≡ commandOn formed (now (nodes .entry)) (now (links .entry)) (now (values .entry)) (now (cells .entry)) (now (log .entry)) (now (words .entry)) ⌝ }
 {
-    let code = refusal(nodes, links, values, cells, log, words);
+    let code = refusal_on(nodes, links, cells, log, words, formed);
     if code != 0 {
         return Answer {
             code: code,
@@ -66,4 +83,18 @@ pub fn command(
         value: done.value,
         runs: runs,
     }
+}
+
+pub fn command(
+    nodes: &mut [u64],
+    links: &mut [u64],
+    values: &mut [i64],
+    cells: &mut [i64],
+    log: &mut [i64],
+    words: &[i64],
+) -> Answer
+    ensures { λ r. ⌜ answered (r .code) (r .value) (r .runs) (now (nodes .exit)) (now (links .exit)) (now (values .exit)) (now (cells .exit)) (now (log .exit)) ≡ commandIn (now (nodes .entry)) (now (links .entry)) (now (values .entry)) (now (cells .entry)) (now (log .entry)) (now (words .entry)) ⌝ }
+{
+    let formed = well_formed(nodes, links, values, cells);
+    command_on(nodes, links, values, cells, log, words, formed)
 }

@@ -20,7 +20,7 @@ pub record Told (y : List ℤ) (a : Answered) : Type 0 where
   pub value : getD y 1 (pos 0) ≡ a .value
   pub runs : getD y 2 (pos 0) ≡ pos (a .runs)
 
-word-is : (k : ℕ) → k < 2 ^ 63 → numberWord k ≡ pos k
+pub word-is : (k : ℕ) → k < 2 ^ 63 → numberWord k ≡ pos k
 unfolding numberWord
 word-is k h = ap pos (omega (arith, h))
 

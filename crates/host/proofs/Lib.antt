@@ -1,3 +1,5 @@
 pub mod Codes
 pub mod Fit
+pub mod ManyCodes
+pub mod ManyReplies
 pub mod Replies

@@ -15,4 +15,5 @@ pub mod OfText
 pub mod OfScript
 pub mod OfPacks
 pub mod Spelled
+pub mod OfSeries
 pub mod OfHost

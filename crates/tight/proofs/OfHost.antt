@@ -5,6 +5,8 @@ use Rattle.host.proofs.calls.simmer_empty.Kinds as calls-simmer-empty-kinds
 use Rattle.host.proofs.calls.simmer_empty.Reads as calls-simmer-empty
 use Rattle.host.proofs.calls.simmer_command.Kinds as calls-simmer-command-kinds
 use Rattle.host.proofs.calls.simmer_command.Reads as calls-simmer-command
+use Rattle.host.proofs.calls.simmer_commands.Kinds as calls-simmer-commands-kinds
+use Rattle.host.proofs.calls.simmer_commands.Reads as calls-simmer-commands
 use Rattle.host.proofs.sizes.simmer_node_words.Kinds as sizes-simmer-node-words-kinds
 use Rattle.host.proofs.sizes.simmer_node_words.Reads as sizes-simmer-node-words
 use Rattle.host.proofs.sizes.simmer_link_words.Kinds as sizes-simmer-link-words-kinds
@@ -25,6 +27,11 @@ pub one-calls-simmer-command : OneAnswer calls-simmer-command-kinds.ps calls-sim
 one-calls-simmer-command κs a x y v w p q =
     let e = p ∙ sym q in
     (λ i. e i .answer, λ i. (e i .nodes, (e i .links, (e i .values, (e i .cells, (e i .log, (tt, (e i .reply, tt))))))))
+
+pub one-calls-simmer-commands : OneAnswer calls-simmer-commands-kinds.ps calls-simmer-commands-kinds.r calls-simmer-commands.Learnt
+one-calls-simmer-commands κs a x y v w p q =
+    let e = p ∙ sym q in
+    (λ i. e i .answer, λ i. (e i .nodes, (e i .links, (e i .values, (e i .cells, (e i .rows, (tt, (e i .answers, (e i .reply, tt)))))))))
 
 pub one-sizes-simmer-node-words : OneAnswer sizes-simmer-node-words-kinds.ps sizes-simmer-node-words-kinds.r sizes-simmer-node-words.Learnt
 one-sizes-simmer-node-words κs a x y v w p q = (p ∙ sym q, refl)

@@ -1,0 +1,5 @@
+pub mod ListLaws
+pub mod StepLaws
+pub mod SeriesLaws
+pub mod Whole
+pub mod Inside
