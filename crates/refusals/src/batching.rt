@@ -2,10 +2,14 @@
 use crate::commands::Command;
 use crate::commands::command_of;
 use counts::reserve::live_effects;
+use counts::room::counted;
 use primitive::rows::DEPTH;
 use primitive::words;
 ghost use mathlib.Core.Path.{_≡_};
 ghost use mathlib.Core.List.{[]};
+ghost use Prim.Native.Nat.{max};
+ghost use lib.Dec.{leb};
+ghost use Rattle.counts.specs.Counts.{countedIn};
 ghost use Rattle.meaning.specs.Words.{commandOf};
 ghost use Rattle.meaning.specs.Refusals.{on, flushRows, wrongDepth, fewRows};
 ghost use Rattle.refusals.specs.Sight.{nodesAlone, sightIn};
@@ -62,9 +66,23 @@ fn wanted_rows(nodes: &[u64], c: Command) -> u64
     }
 }
 
-// 9: too few log rows.
+// Whether a log has rows for any command: one, and as many as there are nodes.
+fn ample(nodes: &[u64], rows: u64) -> bool
+    ensures { λ r. ⌜ r ≡ leb (max 1 (countedIn (now (nodes .entry)))) rows ⌝ }
+{
+    let n = counted(nodes);
+    if n == 0 {
+        return 1 <= rows;
+    }
+    n <= rows
+}
+
+// 9: too few log rows. Live effects are counted only for a log that might be short.
 pub fn few_rows(nodes: &[u64], rows: u64, words: &[i64]) -> bool
     ensures { λ r. ⌜ r ≡ on (commandOf (now (words .entry))) (fewRows (sightIn (now (nodes .entry)) [] [] rows)) ⌝ }
 {
+    if ample(nodes, rows) {
+        return false;
+    }
     rows < wanted_rows(nodes, command_of(words))
 }

@@ -1,8 +1,14 @@
 -- `refusals::batching::few_rows` meets its contract. Assumes nothing.
-use Rattle.refusals.proofs.BatchingLaws.{few-by}
+use Rattle.refusals.proofs.BatchingLaws.{few-by, not-few}
 use borrow.Author.Needs.{needs}
 use Rattle.refusals.proofs.batching.few_rows.Statement.{statement}
 use Rattle.refusals.proofs.batching.few_rows.Tie as tie
+
+ample-requires : tie.Need-ample-requires
+ample-requires c κs = search needs
+
+returns : tie.Need-returns
+returns c = not-few (c .before .before .before .args .nodes .now) (c .before .before .before .args .rows) _ (c .before .ample .ensures) (c .if1 .taken)
 
 command-of-requires : tie.Need-command-of-requires
 command-of-requires c κs = search needs
@@ -10,8 +16,8 @@ command-of-requires c κs = search needs
 wanted-rows-requires : tie.Need-wanted-rows-requires
 wanted-rows-requires c κs = search needs
 
-returns : tie.Need-returns
-returns c = few-by (c .before .before .before .args .nodes .now) (c .before .before .before .args .rows) _ (c .before .command-of .ensures) (c .wanted-rows .ensures)
+returns-2 : tie.Need-returns-2
+returns-2 c = few-by (c .before .before .before .before .before .args .nodes .now) (c .before .before .before .before .before .args .rows) _ (c .before .command-of .ensures) (c .wanted-rows .ensures)
 
 pub few-rows-spec : {M : Type 1} → statement M
-few-rows-spec = tie.close (tie.spec command-of-requires wanted-rows-requires returns)
+few-rows-spec = tie.close (tie.spec ample-requires returns command-of-requires wanted-rows-requires returns-2)
