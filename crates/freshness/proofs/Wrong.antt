@@ -1,9 +1,9 @@
 -- Engines that are not document 01's, and fail demand 3: each on a history of at most eight calls. Assumes nothing.
-use mathlib.Core.Path.{_≡_, refl, sym, ap}
+use mathlib.Core.Path.{_≡_, refl, sym, ap, subst}
 use mathlib.Core.Logic.{inl}
 use mathlib.Core.Bool.{true, false, not, _&&_}
 use mathlib.Core.List.{List, [], _∷_, _++_}
-use Prim.Native.Nat.{ℕ}
+use Prim.Native.Nat.{ℕ, zero, suc}
 use native.Mathlib.Omega.{arith}
 use lib.Dec.{eqb}
 use lib.IntN.{pos, negsuc}
@@ -25,10 +25,10 @@ use Rattle.meaning.specs.Commands.{Answer, perform, performAny, answer, command
 use Rattle.freshness.specs.Afresh.{afreshN, afreshOf, afresh, paired, readings, moved, recorded}
 use Rattle.meaning.specs.Evaluations.{inFormula, inUpdate, inCheckOn, inCheck, inPending, countFirst, countFlushOn, countFresh, countFreshW, countNewEffect, countPerform, countRerun, countRun, countStore}
 use Rattle.freshness.specs.Evaluations.{inPerformAny, inAnswer}
-use Rattle.meaning.specs.State.{St, Row, nothing}
-use Rattle.meaning.specs.Setters.{withDepth, withLive}
+use Rattle.meaning.specs.State.{St, Room, Row, nothing}
+use Rattle.meaning.specs.Setters.{withDepth, withLive, withSubs}
 use Rattle.freshness.specs.Nodes.{ownsN, changed, ran}
-use Rattle.freshness.specs.History.{Call, Engine, meant, written as lastWritten, next, after}
+use Rattle.freshness.specs.History.{Call, Reply, seen, Engine, meant, replies, written as lastWritten, next, after}
 use Rattle.freshness.specs.Right.{Demand3}
 use Rattle.meaning.proofs.Laws.{false≢true}
 use Rattle.freshness.proofs.Sound.{not-it}
@@ -133,10 +133,32 @@ deep s c = let a = meant s c in leaves (withDepth (a .st) 7) a
 abbrev forgets : Engine
 forgets s c = let a = meant s c in leaves (withLive (a .st) (λ l. false)) a
 
+-- keeps each list of subscribers one place off
+abbrev off : (ℕ → List ℕ) → ℕ → List ℕ
+off f zero = []
+off f (suc n) = f n
+
+abbrev unstrung : Engine
+unstrung s c = let a = meant (withSubs s (λ n. s .subs (suc n))) c in leaves (withSubs (a .st) (off (a .st .subs))) a
+
+-- no reply shows it
+unstrung-replies : (s : St) (h : List Call) → replies unstrung (withSubs s (off (s .subs))) h ≡ replies meant s h
+unfolding replies
+unstrung-replies s [] = refl
+unstrung-replies s (c ∷ h) = ap (λ (xs : List Reply). seen (meant s c) ∷ xs) (unstrung-replies (meant s c .st) h)
+
+off-none : (n : ℕ) → off (λ m. []) n ≡ []
+off-none zero = refl
+off-none (suc n) = refl
+
+pub unstrung-answers : (r : Room) (h : List Call) → replies unstrung (empty r) h ≡ replies meant (empty r) h
+unfolding empty
+unstrung-answers r h = subst (λ (f : ℕ → List ℕ). replies unstrung (withSubs (empty r) f) h ≡ replies meant (empty r) h) (λ i n. off-none n i) (unstrung-replies (empty r) h)
+
 longer : {C : Type 0} (r : Row) → [] ≡ r ∷ [] → C
 longer r e = let z = ap (λ (x : List Row). length x) e in absurd (omega arith)
 
-pub none-is-right : (Demand3 refuses → ⊥) × (Demand3 reads-0 → ⊥) × (Demand3 mute → ⊥) × (Demand3 loud → ⊥) × (Demand3 settles-once → ⊥) × (Demand3 stores-nothing → ⊥) × (Demand3 deep → ⊥) × (Demand3 forgets → ⊥) × (Demand3 twice → ⊥) × (Demand3 turns → ⊥) × (Demand3 early → ⊥)
+pub none-is-right : (Demand3 refuses → ⊥) × (Demand3 reads-0 → ⊥) × (Demand3 mute → ⊥) × (Demand3 loud → ⊥) × (Demand3 settles-once → ⊥) × (Demand3 stores-nothing → ⊥) × (Demand3 deep → ⊥) × (Demand3 forgets → ⊥) × (Demand3 twice → ⊥) × (Demand3 turns → ⊥) × (Demand3 early → ⊥) × (Demand3 unstrung → ⊥)
 unfolding Demand3 sum difference minimum maximum less clamp same sameNumber isZero cellOf codes readOf bareOf apply written size names up below empty provided remove each renew spent insert link cut lastLink disposeW unwatchedW unlinkN chain calm effects notify mark prop soil wakes evalBy settleW firstW updComputed updSignal updW sameSlots steady checkOn checkW pendingW freshW fresh logged rerun run flushOn store tallest newSignal newComputed newScope newEffect noWord word wholeCells commands commandOf afterCells grown parse treeOf total reserve liveEffects asksOf isA unknown wrongNode goneNode allReadable badFormula tooHigh noRoom wrongDepth fewRows refusals first refusal perform performAny answer command recorded inFormula countFirst inUpdate inCheckOn inCheck inPending countFreshW countFresh countRerun countRun countFlushOn countStore countNewEffect countPerform inPerformAny inAnswer lastWritten next after afreshN afreshOf paired readings moved ownsN changed ran reads
 none-is-right = (
   λ d. let e : _≡_ {A = ℕ} 2 0 = d room refl [] signal5 (omega arith) .0 .code in absurd (omega arith),
@@ -151,4 +173,5 @@ none-is-right = (
   λ d. d room refl (signal5 ∷ effect0 ∷ []) set6 (omega arith) .0 .accepted (setTo (pos 0) (pos 6)) refl refl .once .0 (inl refl),
   λ d. let e : _≡_ {A = ℕ} 2 1 = d room refl (signal5 ∷ effect0 ∷ effect0 ∷ []) set6 (omega arith) .0 .order .0 in absurd (omega arith),
   λ d. let e : _≡_ {A = ℕ} 3 2 = d room refl case9 ends (omega arith) .0 .order .0 in absurd (omega arith),
+  λ d. d room refl (signal5 ∷ []) effect0 (omega arith) .1 .formed .lists .live-in-subs 0 refl,
 )

@@ -10,6 +10,7 @@ use Rattle.primitive.specs.declared.values.Value.{Value}
 use Rattle.primitive.specs.Values.{value}
 use Rattle.formula.specs.Trees.{Tree, worth}
 use Rattle.meaning.specs.State.{St, effect, signal, Room, capacities, Row, readable, nothing}
+use Rattle.meaning.specs.WellFormed.{WellFormed}
 use Rattle.meaning.specs.Words.{Command, makeSignal, makeComputed, makeEffect, makeScope, setTo, addTo, readOf, disposeOf, batchStart, batchEnd, commandOf, nodeOf}
 use Rattle.meaning.specs.Outcome.{flushes as flushesAt}
 use Rattle.freshness.specs.Afresh.{afreshOf, readings, Among, Differs}
@@ -123,6 +124,8 @@ pub record Agrees (s : St) (p : Past) : Type 0 where
 
 -- after any call, inside a batch and after a refusal too
 pub record Held (s : St) (p : Past) : Type 0 where
+  -- document 01's tables at rest: a live slot is a link, in both lists
+  pub formed : WellFormed s
   pub agrees : Agrees s p
   -- 5: the record of each live effect is not evictable
   pub records : (e : ℕ) → LiveEffect (p .nodes) e → Recorded s e (p .reads e)

@@ -1,12 +1,12 @@
--- The theorem used on a closed history of words, its premise computed: it is not empty. Assumes nothing.
+-- The theorem used on a closed history of words, its premise computed: it is not empty. An engine whose run count is invented fails it. Assumes nothing.
 use mathlib.Core.Path.{_≡_, refl, ap, _∙_}
 use mathlib.Core.Bool.{true}
-use mathlib.Core.List.{List, [], _∷_}
-use Prim.Native.Nat.{ℕ, _+_, _<_, _^_}
+use mathlib.Core.List.{List, [], _∷_, _++_}
+use Prim.Native.Nat.{ℕ, _+_, _*_, _<_, _^_}
 use native.Mathlib.Omega.{arith}
 use lib.IntN.{ℤ, pos, negsuc}
-use lib.ListN.{replicate}
-use Rattle.primitive.specs.Values.{sum, difference, minimum, maximum, less, clamp, same, sameNumber, isZero}
+use lib.ListN.{replicate, length, drop}
+use Rattle.primitive.specs.Values.{value, sum, difference, minimum, maximum, less, clamp, same, sameNumber, isZero}
 use Rattle.formula.specs.Cells.{cellOf, codes, readOf, bareOf}
 use Rattle.formula.specs.Trees.{apply, written, size, names}
 use Rattle.meaning.specs.State.{up, below, empty}
@@ -19,17 +19,21 @@ use Rattle.meaning.specs.Reserve.{total, reserve}
 use Rattle.meaning.specs.Refusals.{liveEffects, asksOf, isA, unknown, wrongNode, goneNode, allReadable, badFormula, tooHigh, noRoom, wrongDepth, fewRows, table as refusals, first, refusal}
 use Rattle.meaning.specs.Commands.{perform, performAny, answer, command}
 use Rattle.meaning.specs.Evaluations.{inFormula, inUpdate, inCheckOn, inCheck, inPending, countFirst, countFlushOn, countFresh, countFreshW, countNewEffect, countPerform, countRerun, countRun, countStore}
-use Rattle.meaning.specs.State.{St}
+use Rattle.meaning.specs.State.{St, Row}
 use Rattle.counts.specs.Counts.{wholeRows, withinMost, withinAll, carryIn}
 use Rattle.refusals.specs.Sight.{roomIn}
+use Rattle.operations.specs.Log.{rowWords}
 use Rattle.operations.specs.Emptying.{emptying}
+use Rattle.engine.specs.Command.{answered}
 use Rattle.freshness.specs.Evaluations.{inPerformAny, inAnswer}
-use Rattle.freshness.specs.History.{Reply, meant, inCall, Past, told, begun}
-use Rattle.freshness.specs.Right.{Right}
-use Rattle.freshness.proofs.NoWeaker.{told-ours, told-many}
+use Rattle.freshness.specs.History.{Reply, meant, replies, inCall, inCalls, Past, told, begun}
+use Rattle.freshness.specs.Right.{Right, RightLog}
+use Rattle.freshness.proofs.NoWeaker.{told-ours, told-many, no-weaker-log}
+use Rattle.structure.specs.Logged.{wordsOf}
 use Rattle.structure.specs.Histories.{Tables, cleared, left, Lent, answeredOn, tablesAfter}
-use Rattle.payouts.specs.OnTables.{call, Shows, HeldIn, AllRight, Demand3On}
+use Rattle.payouts.specs.OnTables.{TableEngine, call, calls, Seen, seenOn, Shows, HeldIn, AllRight, Demand3On}
 use Rattle.payouts.proofs.OfCommand.{demand3-of-command}
+use Rattle.payouts.proofs.NoWeaker.{no-weaker-on}
 
 -- two nodes, four link slots, two cells: words of any content, and then emptied
 abbrev N : List ℕ
@@ -63,10 +67,14 @@ s₁ = meant s₀ (call signal5) .st
 abbrev s₂ : St
 s₂ = meant s₁ (call effect0) .st
 
--- two evaluations: the effect, twice
-two : inCall s₀ (call signal5) + inCall s₁ (call effect0) + inCall s₂ (call set7) ≡ 2
+-- effect 1 found 7 in node 0
+abbrev found7 : List Row
+found7 = record { who = 1; worth = value (pos 7); reads = (0, value (pos 7)) ∷ [] } ∷ []
+
+-- two evaluations, the effect twice; and what the write runs
+closed : (inCall s₀ (call signal5) + inCall s₁ (call effect0) + inCall s₂ (call set7) ≡ 2) × (meant s₂ (call set7) .rows ≡ found7)
 unfolding sum difference minimum maximum less clamp same sameNumber isZero cellOf codes readOf bareOf apply written size names up below empty provided remove each renew spent insert link cut lastLink disposeW unwatchedW unlinkN chain calm effects notify mark prop soil wakes evalBy settleW firstW updComputed updSignal updW sameSlots steady checkOn checkW pendingW freshW fresh logged rerun run flushOn store tallest newSignal newComputed newScope newEffect noWord word wholeCells commands commandOf afterCells grown parse treeOf total reserve liveEffects asksOf isA unknown wrongNode goneNode allReadable badFormula tooHigh noRoom wrongDepth fewRows refusals first refusal perform performAny answer command inFormula countFirst inUpdate inCheckOn inCheck inPending countFreshW countFresh countRerun countRun countFlushOn countStore countNewEffect countPerform inPerformAny inAnswer
-two = refl
+closed = (refl, refl)
 
 carries : carryIn N L W C ≡ true
 unfolding carryIn wholeRows withinAll withinMost
@@ -79,11 +87,19 @@ before = tablesAfter (cleared (emptying N L W C)) (signal5 ∷ effect0 ∷ [])
 pub record Tried (p : Past) (r : Reply) : Type 0 where
   pub ours : p .ours ≡ s₂
   pub shows : Shows (set7 .0) (answeredOn before set7) r
+  pub rows : r .rows ≡ found7
+  pub log : answeredOn before set7 .log ≡ pos 1 ∷ pos 7 ∷ pos 9 ∷ []
   pub right : Right p (call set7) r (told p (call set7) r)
   pub held : HeldIn (left (answeredOn before set7)) (told p (call set7) r)
 
+-- those of the last reply
+abbrev lastRows : List Reply → List Row
+lastRows [] = []
+lastRows (a ∷ []) = a .rows
+lastRows (a ∷ b ∷ xs) = lastRows (b ∷ xs)
+
 pub used : (p : Past) × (r : Reply) × Tried p r
-unfolding Demand3On AllRight tablesAfter
+unfolding Demand3On AllRight tablesAfter RightLog replies inCalls
 used =
     let x = demand3-of-command N L W C carries (signal5 ∷ effect0 ∷ set7 ∷ []) in
     let p₀ = begun (roomIn N L C) in
@@ -95,7 +111,25 @@ used =
     let m₁ : p₁ .many ≡ 0 + inCall s₀ (call signal5) = told-many p₀ (call signal5) (x .0) in
     let m₂ : p₂ .many ≡ p₁ .many + inCall s₁ (call effect0) = told-many p₁ (call effect0) (x .2 .0) ∙ ap (λ (s : St). p₁ .many + inCall s (call effect0)) o₁ in
     let m₃ : told p₂ (call set7) r .many ≡ p₂ .many + inCall s₂ (call set7) = told-many p₂ (call set7) r ∙ ap (λ (s : St). p₂ .many + inCall s (call set7)) o₂ in
-    let e = two in
+    let e = closed .0 in
     let few : told p₂ (call set7) r .many < 2 ^ 64 = omega arith in
     let y = x .2 .2 .1 in
-    (p₂, r, record { ours = o₂; shows = y .shows; right = y .right few; held = y .held few })
+    let same = no-weaker-log (roomIn N L C) refl (calls (signal5 ∷ effect0 ∷ set7 ∷ [])) (x .0 ∷ x .2 .0 ∷ r ∷ []) (omega arith) (x .1 .right, (x .2 .1 .right, (y .right, tt))) in
+    let rows : r .rows ≡ found7 = ap lastRows same ∙ closed .1 in
+    let log = y .shows .runs .words ∙ ap (λ (rs : List Row). wordsOf rs ++ drop (length rs * rowWords) (set7 .0)) rows in
+    (p₂, r, record { ours = o₂; shows = y .shows; rows = rows; log = log; right = y .right few; held = y .held few })
+
+-- ---- an engine whose run count is one more than the rows
+abbrev invents : TableEngine
+invents t c = let a = answeredOn t c in answered (a .code) (a .value) (1 + a .runs) (a .nodes) (a .links) (a .values) (a .cells) (a .log)
+
+abbrev firstRuns : List Seen → ℕ
+firstRuns [] = 0
+firstRuns (a ∷ xs) = a .runs
+
+pub not-invented : Demand3On invents → ⊥
+unfolding seenOn inCalls
+not-invented d =
+    let n = closed .0 in
+    let e = ap firstRuns (no-weaker-on invents d N L W C carries (signal5 ∷ []) (omega arith)) in
+    absurd (omega arith)

@@ -19,7 +19,7 @@ use Rattle.links.proofs.FreeLaws.{released-live, released-freed, released-other
 use Rattle.links.proofs.Kept.{untouched-kept}
 use Rattle.resting.specs.Linked.{dependencies, subscribers}
 use Rattle.meaning.specs.State.{St, up, deps}
-use Rattle.meaning.specs.Links.{remove, cut}
+use Rattle.meaning.specs.Links.{provided, remove, cut}
 use Rattle.meaning.specs.WellFormed.{In, Once}
 use Rattle.meaning.proofs.Laws.{clash, either, up-same, up-other, up-by}
 use Rattle.meaning.proofs.Members.{remove-absent, remove-append, once-apart}
