@@ -1,6 +1,6 @@
 -- Engines that are not document 01's, and fail demand 3: each on a history of at most eight calls. Assumes nothing.
 use mathlib.Core.Path.{_≡_, refl, sym, ap, subst}
-use mathlib.Core.Logic.{inl}
+use mathlib.Core.Logic.{inl, inr}
 use mathlib.Core.Bool.{true, false, not, _&&_}
 use mathlib.Core.List.{List, [], _∷_, _++_}
 use Prim.Native.Nat.{ℕ, zero, suc}
@@ -22,7 +22,7 @@ use Rattle.meaning.specs.Words.{makeSignal, makeEffect, setTo, readOf as readIt
 use Rattle.meaning.specs.Reserve.{total, reserve}
 use Rattle.meaning.specs.Refusals.{liveEffects, asksOf, isA, unknown, wrongNode, goneNode, allReadable, badFormula, tooHigh, noRoom, wrongDepth, fewRows, table as refusals, first, refusal}
 use Rattle.meaning.specs.Commands.{Answer, perform, performAny, answer, command}
-use Rattle.freshness.specs.Afresh.{afreshN, afreshOf, afresh, paired, readings, moved, recorded}
+use Rattle.freshness.specs.Afresh.{afreshN, afreshOf, afresh, paired, readings, moved, recorded, Among}
 use Rattle.meaning.specs.Evaluations.{inFormula, inUpdate, inCheckOn, inCheck, inPending, countFirst, countFlushOn, countFresh, countFreshW, countNewEffect, countPerform, countRerun, countRun, countStore}
 use Rattle.freshness.specs.Evaluations.{inPerformAny, inAnswer}
 use Rattle.meaning.specs.State.{St, Room, Row, nothing}
@@ -71,6 +71,19 @@ ends = record { rows = 4; words = pos 10 ∷ [] }
 
 abbrev pub case9 : List Call
 case9 = signal0 ∷ signal0 ∷ effect0 ∷ owned1 ∷ begins ∷ set1-9 ∷ set0-4 ∷ []
+
+-- a branch that turns: signals 1, 5 and 6; an effect that chooses by the first between the others; a write of 0 to the first
+abbrev signal1 : Call
+signal1 = record { rows = 4; words = pos 1 ∷ pos 1 ∷ [] }
+
+abbrev signal6 : Call
+signal6 = record { rows = 4; words = pos 1 ∷ pos 6 ∷ [] }
+
+abbrev chooses : Call
+chooses = record { rows = 4; words = pos 3 ∷ negsuc 0 ∷ pos 8 ∷ pos 0 ∷ pos 2 ∷ pos 0 ∷ pos 2 ∷ pos 1 ∷ pos 2 ∷ pos 2 ∷ [] }
+
+abbrev set0 : Call
+set0 = record { rows = 4; words = pos 5 ∷ pos 0 ∷ pos 0 ∷ [] }
 
 -- ---- the engines: document 01's, with another answer
 abbrev answers : ℕ → Value → List Row → Answer → Answer
@@ -133,6 +146,10 @@ deep s c = let a = meant s c in leaves (withDepth (a .st) 7) a
 abbrev forgets : Engine
 forgets s c = let a = meant s c in leaves (withLive (a .st) (λ l. false)) a
 
+-- never lets go of a link
+abbrev clings : Engine
+clings s c = let a = meant s c in leaves (withLive (a .st) (λ l. true)) a
+
 -- keeps each list of subscribers one place off
 abbrev off : (ℕ → List ℕ) → ℕ → List ℕ
 off f zero = []
@@ -158,8 +175,14 @@ unstrung-answers r h = subst (λ (f : ℕ → List ℕ). replies unstrung (withS
 longer : {C : Type 0} (r : Row) → [] ≡ r ∷ [] → C
 longer r e = let z = ap (λ (x : List Row). length x) e in absurd (omega arith)
 
-pub none-is-right : (Demand3 refuses → ⊥) × (Demand3 reads-0 → ⊥) × (Demand3 mute → ⊥) × (Demand3 loud → ⊥) × (Demand3 settles-once → ⊥) × (Demand3 stores-nothing → ⊥) × (Demand3 deep → ⊥) × (Demand3 forgets → ⊥) × (Demand3 twice → ⊥) × (Demand3 turns → ⊥) × (Demand3 early → ⊥) × (Demand3 unstrung → ⊥)
-unfolding Demand3 sum difference minimum maximum less clamp same sameNumber isZero cellOf codes readOf bareOf apply written size names up below empty provided remove each renew spent insert link cut lastLink disposeW unwatchedW unlinkN chain calm effects notify mark prop soil wakes evalBy settleW firstW updComputed updSignal updW sameSlots steady checkOn checkW pendingW freshW fresh logged rerun run flushOn store tallest newSignal newComputed newScope newEffect noWord word wholeCells commands commandOf afterCells grown parse treeOf total reserve liveEffects asksOf isA unknown wrongNode goneNode allReadable badFormula tooHigh noRoom wrongDepth fewRows refusals first refusal perform performAny answer command recorded inFormula countFirst inUpdate inCheckOn inCheck inPending countFreshW countFresh countRerun countRun countFlushOn countStore countNewEffect countPerform inPerformAny inAnswer lastWritten next after afreshN afreshOf paired readings moved ownsN changed ran reads
+-- after the turn node 1 is not read
+turned-away : (v : Value) → Among 1 v ((0, value (pos 0)) ∷ (2, value (pos 6)) ∷ []) → ⊥
+turned-away v (inl e) = let z = e .0 in absurd (omega arith)
+turned-away v (inr (inl e)) = let z = e .0 in absurd (omega arith)
+turned-away v (inr (inr e)) = e
+
+pub none-is-right : (Demand3 refuses → ⊥) × (Demand3 reads-0 → ⊥) × (Demand3 mute → ⊥) × (Demand3 loud → ⊥) × (Demand3 settles-once → ⊥) × (Demand3 stores-nothing → ⊥) × (Demand3 deep → ⊥) × (Demand3 forgets → ⊥) × (Demand3 twice → ⊥) × (Demand3 turns → ⊥) × (Demand3 early → ⊥) × (Demand3 unstrung → ⊥) × (Demand3 clings → ⊥)
+unfolding Demand3 sum difference minimum maximum less clamp same sameNumber isZero cellOf codes readOf bareOf apply written size names up below empty provided remove each renew spent insert link cut lastLink disposeW unwatchedW unlinkN chain calm effects notify mark prop soil wakes evalBy settleW firstW updComputed updSignal updW sameSlots steady checkOn checkW pendingW freshW fresh logged rerun run flushOn store tallest newSignal newComputed newScope newEffect noWord word wholeCells commands commandOf afterCells grown parse treeOf total reserve liveEffects asksOf isA unknown wrongNode goneNode allReadable badFormula tooHigh noRoom wrongDepth fewRows refusals first refusal perform performAny answer command recorded inFormula countFirst inUpdate inCheckOn inCheck inPending countFreshW countFresh countRerun countRun countFlushOn countStore countNewEffect countPerform inPerformAny inAnswer lastWritten next after afreshN afreshOf paired readings moved ownsN changed ran reads worth
 none-is-right = (
   λ d. let e : _≡_ {A = ℕ} 2 0 = d room refl [] signal5 (omega arith) .0 .code in absurd (omega arith),
   λ d. let e : nothing ≡ value (pos 5) = d room refl (signal5 ∷ []) read0 (omega arith) .0 .accepted (readIt (pos 0)) refl refl .value in false≢true (sym (ap isZero e)),
@@ -174,4 +197,17 @@ none-is-right = (
   λ d. let e : _≡_ {A = ℕ} 2 1 = d room refl (signal5 ∷ effect0 ∷ effect0 ∷ []) set6 (omega arith) .0 .order .0 in absurd (omega arith),
   λ d. let e : _≡_ {A = ℕ} 3 2 = d room refl case9 ends (omega arith) .0 .order .0 in absurd (omega arith),
   λ d. d room refl (signal5 ∷ []) effect0 (omega arith) .1 .formed .lists .live-in-subs 0 refl,
+  λ d. let x = d room refl (signal1 ∷ signal5 ∷ signal6 ∷ chooses ∷ []) set0 (omega arith) .1 .records 3 (omega arith, refl, refl) .read 1 refl refl refl in turned-away (x .0) (x .1),
 )
+
+-- ---- two that keep another state are seen by their rows too: after the turn and a write to what is no longer read
+abbrev runsOf : List Reply → List ℕ
+runsOf [] = []
+runsOf (a ∷ xs) = length (a .rows) ∷ runsOf xs
+
+abbrev turning : List Call
+turning = signal1 ∷ signal5 ∷ signal6 ∷ chooses ∷ set0 ∷ set1-9 ∷ []
+
+pub runs-differ : (runsOf (replies meant (empty room) turning) ≡ 0 ∷ 0 ∷ 0 ∷ 1 ∷ 1 ∷ 0 ∷ []) × (runsOf (replies forgets (empty room) turning) ≡ 0 ∷ 0 ∷ 0 ∷ 1 ∷ 1 ∷ 1 ∷ []) × (runsOf (replies deep (empty room) turning) ≡ 0 ∷ 0 ∷ 0 ∷ 1 ∷ 0 ∷ 0 ∷ [])
+unfolding replies sum difference minimum maximum less clamp same sameNumber isZero cellOf codes readOf bareOf apply written size names up below empty provided remove each renew spent insert link cut lastLink disposeW unwatchedW unlinkN chain calm effects notify mark prop soil wakes evalBy settleW firstW updComputed updSignal updW sameSlots steady checkOn checkW pendingW freshW fresh logged rerun run flushOn store tallest newSignal newComputed newScope newEffect noWord word wholeCells commands commandOf afterCells grown parse treeOf total reserve liveEffects asksOf isA unknown wrongNode goneNode allReadable badFormula tooHigh noRoom wrongDepth fewRows refusals first refusal perform performAny answer command recorded inFormula countFirst inUpdate inCheckOn inCheck inPending countFreshW countFresh countRerun countRun countFlushOn countStore countNewEffect countPerform inPerformAny inAnswer
+runs-differ = (refl, refl, refl)

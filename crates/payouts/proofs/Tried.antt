@@ -92,7 +92,7 @@ pub record Tried (p : Past) (r : Reply) : Type 0 where
   pub right : Right p (call set7) r (told p (call set7) r)
   pub held : HeldIn (left (answeredOn before set7)) (told p (call set7) r)
 
--- those of the last reply
+-- the rows of the last reply
 abbrev lastRows : List Reply → List Row
 lastRows [] = []
 lastRows (a ∷ []) = a .rows
