@@ -33,7 +33,7 @@ chain-exact ow f (suc k) e h = go (λ o l. chain-exact ow f k o l) (ow e) refl h
         (λ a z. stops (λ x y. ap (λ (n : ℕ). f n .watching) (sym (same-some (sym q ∙ y))) ∙ a)) l
 
 -- ---- a mark that is not stuck
-mark-exact : (s : St) (m : Marks) (u : ℕ) → mark s m u .stuck ≡ false → Marked s m u (mark s m u)
+pub mark-exact : (s : St) (m : Marks) (u : ℕ) → mark s m u .stuck ≡ false → Marked s m u (mark s m u)
 unfolding mark notify
 mark-exact s m u =
     let f = pendingAt m u in
