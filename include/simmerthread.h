@@ -65,7 +65,7 @@ uint64_t simmer_empty(uint64_t *nodes, size_t nodes_len,
 #define SIMMER_EFFECT 3   /* owner, cells   makes an effect, which runs at once; value: its number               */
 #define SIMMER_SCOPE 4    /* owner          makes a scope; value: its number                                     */
 #define SIMMER_SET 5      /* n, v           sets signal n to v                                                   */
-#define SIMMER_ADD 6      /* n, d           adds d to signal n                                                   */
+#define SIMMER_ADD 6      /* n, d           sets signal n to d more than it was worth when last read             */
 #define SIMMER_READ 7     /* n              value: what signal or computed n is worth                            */
 #define SIMMER_DISPOSE 8  /* n              disposes of effect or scope n and of all that it owns                */
 #define SIMMER_START 9    /*                starts a batch: effects wait                                         */

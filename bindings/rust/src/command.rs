@@ -54,7 +54,8 @@ pub enum Command {
         /// Its new value.
         value: i64,
     },
-    /// Adds to a signal; it stops at the ends of the signed 64-bit range.
+    /// Sets a signal to so much more than it was worth when last read: a write that nothing has read yet is not in it. It stops at
+    /// the ends of the signed 64-bit range.
     Add {
         /// The signal.
         node: Node,

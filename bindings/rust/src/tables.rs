@@ -302,7 +302,19 @@ impl Tables {
         self.command(&Command::Set { node, value })
     }
 
-    /// Adds to a signal; else as [`Tables::set`].
+    /// Sets a signal to so much more than it was worth when last read by a command, a formula or a flush; else as [`Tables::set`].
+    ///
+    /// ```
+    /// use simmerthread::{Refusal, Room, Tables};
+    /// let mut tables = Tables::new(Room::PROGRAM).unwrap();
+    /// let sale = tables.signal(0)?;
+    /// tables.add(sale, 100)?;
+    /// tables.add(sale, 100)?; // nothing has read the first
+    /// assert_eq!(tables.read(sale)?, 100);
+    /// tables.add(sale, 100)?;
+    /// assert_eq!(tables.read(sale)?, 200);
+    /// # Ok::<(), Refusal>(())
+    /// ```
     pub fn add(&mut self, node: Node, amount: i64) -> Result<Answer<'_>, Refusal> {
         self.command(&Command::Add { node, amount })
     }
