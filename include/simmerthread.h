@@ -10,7 +10,7 @@
  *
  *   - each pointer is not null, also where its length is 0, and has room for as many words as the length beside it says, aligned as
  *     its type;
- *   - nothing that is lent to one call overlaps, tables, log, words of the command and reply;
+ *   - nothing that is lent to one call overlaps: tables, log or rows, words or list, answers, reply;
  *   - nobody else touches these during a call. Two threads may work on two sets of tables, not on one;
  *   - the calling thread has stack enough, which no proof bounds: 1 MiB is three times what we measured (docs/HOST.md).
  *
@@ -65,7 +65,7 @@ uint64_t simmer_empty(uint64_t *nodes, size_t nodes_len,
 #define SIMMER_EFFECT 3   /* owner, cells   makes an effect, which runs at once; value: its number               */
 #define SIMMER_SCOPE 4    /* owner          makes a scope; value: its number                                     */
 #define SIMMER_SET 5      /* n, v           sets signal n to v                                                   */
-#define SIMMER_ADD 6      /* n, d           adds d to signal n                                                   */
+#define SIMMER_ADD 6      /* n, d           sets signal n to d more than it was worth when last read             */
 #define SIMMER_READ 7     /* n              value: what signal or computed n is worth                            */
 #define SIMMER_DISPOSE 8  /* n              disposes of effect or scope n and of all that it owns                */
 #define SIMMER_START 9    /*                starts a batch: effects wait                                         */
@@ -137,6 +137,7 @@ uint64_t simmer_command(uint64_t *nodes, size_t nodes_len,
 #define SIMMER_REPLY_DONE 2 /* commands that were answered, refusals too: so many answers are written            */
 #define SIMMER_REPLY_ROWS 3 /* rows that they wrote, together                                                    */
 
+/* The four stops, tried in this order before each command. */
 #define SIMMER_ALL_DONE 0     /* the list is over                                                                */
 #define SIMMER_BAD_LIST 1     /* the next word of the list is below 0, or more words than are left               */
 #define SIMMER_FULL_ANSWERS 2 /* no room for one more answer                                                     */
@@ -146,8 +147,9 @@ uint64_t simmer_command(uint64_t *nodes, size_t nodes_len,
  * Commands on lent tables, one after another, until one of the four says stop. Each is answered as simmer_command answers it, given
  * what is left of the rows as its log; but all of the tables are tested once, and not for each command. What it stopped before has
  * changed nothing: take the answers and the rows, and go on with the rest of the list. If it stops with SIMMER_FULL_ROWS and nothing
- * done, the rows are too few for that command alone. Answers one of the four (the reply's first word is the same), or
- * SIMMER_SHORT_REPLY.
+ * done, the rows are too few for that command alone. The rows may be any number, SIMMER_ROW words each; a write outside a batch wants
+ * as many as effects are live, so lend more than that, or it stops early. Answers one of the four (the reply's first word is the same),
+ * or SIMMER_SHORT_REPLY.
  */
 uint64_t simmer_commands(uint64_t *nodes, size_t nodes_len,
                          uint64_t *links, size_t links_len,

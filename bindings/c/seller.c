@@ -77,8 +77,10 @@ static void sent_all(struct tables *t, const int64_t *list, size_t length) {
         }
         used += (size_t)reply[SIMMER_REPLY_USED];
     } while (reply[SIMMER_REPLY_DONE] > 0 && (why == SIMMER_FULL_ANSWERS || why == SIMMER_FULL_ROWS));
-    if (why != SIMMER_ALL_DONE)
+    if (why != SIMMER_ALL_DONE) {
         fprintf(stderr, "seller: stopped at word %zu of the list\n", used);
+        exit(1);
+    }
 }
 
 #define SEND(t, ...) sent(t, (const int64_t[]){__VA_ARGS__}, sizeof((const int64_t[]){__VA_ARGS__}) / sizeof(int64_t))

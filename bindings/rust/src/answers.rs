@@ -11,7 +11,7 @@ pub struct Answers<'a> {
 }
 
 impl<'a> Answers<'a> {
-    /// How many commands were done. The others were not looked at: there were too few rows left for the next of them.
+    /// How many commands were done. If not all, the next wants more rows than are left; those behind it were not looked at.
     pub fn done(&self) -> usize {
         self.answers.len()
     }

@@ -54,7 +54,8 @@ pub enum Command {
         /// Its new value.
         value: i64,
     },
-    /// Adds to a signal; it stops at the ends of the signed 64-bit range.
+    /// Sets a signal to so much more than it was worth when last read: a write that nothing has read yet is not in it. It stops at
+    /// the ends of the signed 64-bit range.
     Add {
         /// The signal.
         node: Node,
@@ -165,9 +166,13 @@ impl Command {
     }
 }
 
-/// -1 means none.
+/// -1 means none. As a node's number, which no node has, it goes as another that no node has.
 fn owner_word(owner: Option<Node>) -> i64 {
-    owner.map_or(-1, |node| node.0)
+    match owner {
+        None => -1,
+        Some(Node(-1)) => i64::MIN,
+        Some(Node(number)) => number,
+    }
 }
 
 fn owner_of(word: i64) -> Option<Node> {

@@ -78,7 +78,7 @@ impl Formula {
         name: &dyn Fn(Node) -> D,
     ) -> fmt::Result {
         let (cells, _) = self.0.as_chunks();
-        write_expression(cells, Holds::Loosely, name, out).map(|_| ())
+        write_cells(cells, name, out)
     }
 
     fn of(code: i64, operand: i64, arguments: impl IntoIterator<Item = Formula>) -> Formula {
@@ -165,37 +165,61 @@ enum Holds {
     Whole,
 }
 
-/// Writes the first expression, and returns the cells behind it.
-fn write_expression<'a, D: fmt::Display>(
-    cells: &'a [[i64; 2]],
-    must: Holds,
+/// What is still to be written.
+enum Part {
+    Text(&'static str),
+    /// The next expression of the cells, and how it must hold.
+    Expression(Holds),
+}
+
+/// Writes the expression that the cells are. It keeps a stack of its own: no nesting is too deep for it.
+fn write_cells<D: fmt::Display>(
+    cells: &[[i64; 2]],
     name: &dyn Fn(Node) -> D,
     out: &mut dyn fmt::Write,
-) -> Result<&'a [[i64; 2]], fmt::Error> {
+) -> fmt::Result {
     use Holds::*;
-    let (&[code, operand], mut rest) =
-        cells.split_first().expect("the functions above leave none out");
-    // Before, between and behind the arguments; and how they must hold.
-    type Parts = (Holds, &'static [&'static str], &'static [Holds]);
-    let (holds, texts, arguments): Parts = match code {
-        1 => return write!(out, "{operand}").map(|()| rest),
-        2 => return write!(out, "{}", name(Node(operand))).map(|()| rest),
-        3 => (AsSum, &["", " + ", ""], &[AsSum, Whole]),
-        4 => (AsSum, &["", " - ", ""], &[AsSum, Whole]),
-        5 => (Whole, &["min(", ", ", ")"], &[Loosely, Loosely]),
-        6 => (Whole, &["max(", ", ", ")"], &[Loosely, Loosely]),
-        7 => (AsComparison, &["", " < ", ""], &[AsSum, AsSum]),
-        _ => (Loosely, &["if ", " then ", " else ", ""], &[AsComparison, AsComparison, Loosely]),
-    };
-    let (open, close) = if holds < must { ("(", ")") } else { ("", "") };
-    out.write_str(open)?;
-    out.write_str(texts[0])?;
-    for (argument, text) in arguments.iter().zip(&texts[1..]) {
-        rest = write_expression(rest, *argument, name, out)?;
-        out.write_str(text)?;
+    let mut cells = cells.iter();
+    let mut left = vec![Part::Expression(Loosely)];
+    while let Some(part) = left.pop() {
+        let must = match part {
+            Part::Text(text) => {
+                out.write_str(text)?;
+                continue;
+            }
+            Part::Expression(must) => must,
+        };
+        let &[code, operand] = cells.next().expect("the functions above leave none out");
+        // Before, between and behind the arguments; and how they must hold.
+        type Parts = (Holds, &'static [&'static str], &'static [Holds]);
+        let (holds, texts, arguments): Parts = match code {
+            1 => {
+                write!(out, "{operand}")?;
+                continue;
+            }
+            2 => {
+                write!(out, "{}", name(Node(operand)))?;
+                continue;
+            }
+            3 => (AsSum, &["", " + ", ""], &[AsSum, Whole]),
+            4 => (AsSum, &["", " - ", ""], &[AsSum, Whole]),
+            5 => (Whole, &["min(", ", ", ")"], &[Loosely, Loosely]),
+            6 => (Whole, &["max(", ", ", ")"], &[Loosely, Loosely]),
+            7 => (AsComparison, &["", " < ", ""], &[AsSum, AsSum]),
+            _ => {
+                (Loosely, &["if ", " then ", " else ", ""], &[AsComparison, AsComparison, Loosely])
+            }
+        };
+        let (open, close) = if holds < must { ("(", ")") } else { ("", "") };
+        out.write_str(open)?;
+        out.write_str(texts[0])?;
+        left.push(Part::Text(close));
+        for (argument, text) in arguments.iter().zip(&texts[1..]).rev() {
+            left.push(Part::Text(text));
+            left.push(Part::Expression(*argument));
+        }
     }
-    out.write_str(close)?;
-    Ok(rest)
+    Ok(())
 }
 
 #[cfg(test)]
@@ -221,6 +245,14 @@ mod tests {
         for (formula, text) in said {
             assert_eq!(formula.to_string(), text);
         }
+    }
+
+    #[test]
+    fn no_nesting_is_too_deep() {
+        let deep = 100_000;
+        let words = [[3, 0].repeat(deep), [1, 1].repeat(deep + 1)].concat();
+        let text = Formula::from_words(&words).unwrap().to_string();
+        assert_eq!(text, "1".to_string() + &" + 1".repeat(deep));
     }
 
     #[test]

@@ -48,7 +48,8 @@ pub struct Room {
     pub links: usize,
     /// Formula cells ever written, 1 to 8,192.
     pub cells: usize,
-    /// Rows of the log, 1 to 1,024. A flush wants as many as effects are live.
+    /// Rows of the log, 1 to 1,024. A flush wants as many as effects are live; many commands in one call want as many more as they
+    /// write, or [`Tables::commands`] stops early.
     pub rows: usize,
 }
 
@@ -170,6 +171,9 @@ impl Tables {
     /// Sends many commands, one after another; the tables are tested once for all of them. Each is answered as it would have been
     /// alone, refusals too, until the list is over or the next command wants more rows than the log has left. Then take the runs and
     /// send the others. Where none was done, the whole log is too short for the first of them: alone it would be [`Refusal::Rows`].
+    ///
+    /// A flush wants a row for each live effect, however few it then writes: a log of no more rows than that stops a call after the first
+    /// command that writes one. [`Room::rows`] is at most 1,024.
     ///
     /// ```
     /// use simmerthread::{Command, Node, Refusal, Room, Tables, read};
@@ -302,7 +306,19 @@ impl Tables {
         self.command(&Command::Set { node, value })
     }
 
-    /// Adds to a signal; else as [`Tables::set`].
+    /// Sets a signal to so much more than it was worth when last read by a command, a formula or a flush; else as [`Tables::set`].
+    ///
+    /// ```
+    /// use simmerthread::{Refusal, Room, Tables};
+    /// let mut tables = Tables::new(Room::PROGRAM).unwrap();
+    /// let sale = tables.signal(0)?;
+    /// tables.add(sale, 100)?;
+    /// tables.add(sale, 100)?; // nothing has read the first
+    /// assert_eq!(tables.read(sale)?, 100);
+    /// tables.add(sale, 100)?;
+    /// assert_eq!(tables.read(sale)?, 200);
+    /// # Ok::<(), Refusal>(())
+    /// ```
     pub fn add(&mut self, node: Node, amount: i64) -> Result<Answer<'_>, Refusal> {
         self.command(&Command::Add { node, amount })
     }

@@ -78,3 +78,25 @@ fn none_at_all() {
     let mut tables = Tables::new(Room::PROGRAM).unwrap();
     assert_eq!(tables.commands(&[]).done(), 0);
 }
+
+/// A write wants a row for each live effect, however few it writes: the host's page has these numbers.
+#[test]
+fn rows_for_more_than_one() {
+    let made = (0..40).map(|k| Command::Signal { value: k });
+    let paid = (0..40).map(|n| Command::Effect { owner: None, formula: read(Node(n)) });
+    let setting: Vec<Command> = made.chain(paid).collect();
+    let writes: Vec<Command> =
+        (0..300).map(|i| Command::Set { node: Node(i % 40), value: 1_000 + i }).collect();
+    for (rows, calls) in [(40, 300), (64, 12), (256, 2), (1_024, 1)] {
+        let mut tables = Tables::new(Room { rows, ..Room::HOST }).unwrap();
+        assert_eq!(tables.commands(&setting).done(), setting.len());
+        let (mut done, mut counted) = (0, 0);
+        while done < writes.len() {
+            let answers = tables.commands(&writes[done..]);
+            assert!(answers.iter().all(|answer| answer.unwrap().runs().len() == 1));
+            done += answers.done();
+            counted += 1;
+        }
+        assert_eq!(counted, calls, "{rows} rows");
+    }
+}

@@ -28,6 +28,10 @@ fn wrong_node() {
     let scope = tables.scope(None).unwrap();
     assert_eq!(tables.read(scope), Err(Refusal::Node));
     assert_eq!(tables.set(scope, 1), Err(Refusal::Node));
+    for number in [-1, -2, i64::MIN, 1] {
+        assert_eq!(tables.scope(Some(Node(number))), Err(Refusal::Node));
+        assert_eq!(tables.effect(Some(Node(number)), 5), Err(Refusal::Node));
+    }
 }
 
 #[test]
