@@ -1,9 +1,10 @@
 //! The library's speed beside the original engine's, on the same commands in one run: ratios, how they grow, the cost of the test of the
-//! tables, the host's day and the stack. docs/PERFORMANCE.md says what the tables mean.
+//! tables, the host's day and the stack. docs/PERFORMANCE.md says what the tables mean; it has each under the heading that is printed here.
 //!
 //! usage: benchmark [--quick]
 
 mod answers;
+mod goals;
 mod library;
 mod measure;
 mod original;
@@ -13,8 +14,9 @@ mod table;
 
 use std::process::ExitCode;
 
-use measure::{Pains, Times, measure, test_of_tables};
+use measure::{Full, Pains, Times, measure, test_of_tables};
 use shapes::{DAY, SHAPES, SIZES, WRITES};
+use stack::Depth;
 use table::{Table, thousands};
 
 fn main() -> ExitCode {
@@ -41,14 +43,19 @@ fn main() -> ExitCode {
         );
         return ExitCode::SUCCESS;
     }
-    println!("## Inside one call\n");
-    println!("{}", ratios(&measured, |times| times.script));
-    println!("## One call a command\n");
-    println!("{}", ratios(&measured, |times| times.one_by_one));
-    println!("## Nanoseconds a command\n\n{}", absolute(&measured));
-    println!("## The test of full tables\n\n{}", test());
-    println!("## A second of the host's day\n\n{}", day(&measured));
-    println!("## Stack\n\n{}", depths());
+    let full = test_of_tables();
+    let depths = stack::depths();
+    for (heading, table) in [
+        ("Goals", goals::goals(&measured, &full, &depths)),
+        ("Inside one call", ratios(&measured, |times| times.script)),
+        ("One call a command", ratios(&measured, |times| times.one_by_one)),
+        ("Nanoseconds a command", absolute(&measured)),
+        ("The test of full tables", test(&full)),
+        ("A second of the host's day", day(&measured)),
+        ("Stack", deepest(&depths)),
+    ] {
+        println!("## {heading}\n\n{table}");
+    }
     ExitCode::SUCCESS
 }
 
@@ -96,8 +103,7 @@ fn absolute(measured: &[(&str, Vec<Times>)]) -> Table {
     table
 }
 
-fn test() -> Table {
-    let full = test_of_tables();
+fn test(full: &Full) -> Table {
     let mut table = Table::new(&["Over 1,024 nodes, 8,192 links, 8,192 cells", "microseconds"]);
     let micros = |nanos: f64| format!("{:.1}", nanos / 1_000.0);
     table.row(vec![format!("the sum of all {} words", thousands(full.words)), micros(full.sum)]);
@@ -121,15 +127,15 @@ fn day(measured: &[(&str, Vec<Times>)]) -> Table {
         ]);
     };
     row("the original", at.original);
-    row("the library, one call a second", at.script + at.test);
+    row("the library, one call a second", at.whole());
     row("the library, one call a command", at.one_by_one);
     table
 }
 
-fn depths() -> Table {
+fn deepest(depths: &[Depth]) -> Table {
     let mut table = Table::new(&["The call that goes deepest", "bytes"]);
-    for (name, bytes) in stack::depths() {
-        table.row(vec![name.into(), thousands(bytes)]);
+    for (name, bytes) in depths {
+        table.row(vec![name.to_string(), thousands(*bytes)]);
     }
     table
 }

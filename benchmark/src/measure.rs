@@ -17,13 +17,13 @@ pub struct Pains {
     pub sample: Duration,
     /// Samples of the original and of whole scripts.
     pub samples: usize,
-    /// Samples with one call a command, which take longer; each turn of them is timed.
+    /// Samples with one call a command, which take longer; each call of them is timed.
     pub slow_samples: usize,
 }
 
 impl Pains {
     pub const FULL: Pains =
-        Pains { sample: Duration::from_micros(300), samples: 60, slow_samples: 10 };
+        Pains { sample: Duration::from_micros(300), samples: 300, slow_samples: 60 };
     pub const QUICK: Pains =
         Pains { sample: Duration::from_micros(1), samples: 3, slow_samples: 2 };
 }
@@ -38,8 +38,15 @@ pub struct Times {
     pub script: f64,
     /// The test of the tables.
     pub test: f64,
-    /// A call a command.
+    /// A call a command: the least time of each, summed. A whole turn can be too long to be left alone by what else runs.
     pub one_by_one: f64,
+}
+
+impl Times {
+    /// A whole turn as one call, the test of the tables with it.
+    pub fn whole(&self) -> f64 {
+        self.script + self.test
+    }
 }
 
 /// Tables for so many nodes; at the greatest size they are the host's.
@@ -102,21 +109,29 @@ pub fn measure(name: &str, size: usize, work: &Work, pains: Pains) -> Times {
         original: f64::INFINITY,
         script: f64::INFINITY,
         test: f64::INFINITY,
-        one_by_one: f64::INFINITY,
+        one_by_one: 0.0,
     };
+    let mut calls = vec![f64::INFINITY; turn.len()];
+    // What the original had answered after each sample: one call a command is behind, since its samples are spread over the others.
+    let mut answered = Vec::new();
+    let mut slow = 0;
     for sample in 0..pains.samples {
         least.original = least.original.min(nanos(|| original.run(times, black_box(&mut theirs))));
         least.script = least.script.min(nanos(|| scripted.script(&list, black_box(ours_scripted))));
         least.test = least.test.min(nanos(|| scripted.script(&[], black_box(ours_scripted))));
         same(theirs, *ours_scripted);
-        if sample < pains.slow_samples {
+        answered.push(theirs);
+        if sample * pains.slow_samples >= slow * pains.samples {
             for _ in 0..times {
-                let taken = nanos(|| one_by_one(single, 1, black_box(ours)));
-                least.one_by_one = least.one_by_one.min(taken);
+                for (words, call) in turn.iter().zip(&mut calls) {
+                    *call = call.min(nanos(|| single.answer(words, black_box(ours))));
+                }
             }
-            same(theirs, *ours);
+            same(answered[slow], *ours);
+            slow += 1;
         }
     }
+    least.one_by_one = calls.iter().sum();
     least.script -= least.test;
     least.original /= times as f64;
     least.script /= times as f64;

@@ -2,38 +2,48 @@
 
 use std::fmt;
 
-pub struct Table(Vec<Vec<String>>);
+pub struct Table {
+    rows: Vec<Vec<String>>,
+    /// So many columns stand to the left, the others to the right.
+    left: usize,
+}
 
 impl Table {
+    /// A column of names, and figures.
     pub fn new(head: &[&str]) -> Table {
-        Table(vec![head.iter().map(|cell| cell.to_string()).collect()])
+        Table { rows: vec![head.iter().map(|cell| cell.to_string()).collect()], left: 1 }
+    }
+
+    /// All columns are words.
+    pub fn of_text(head: &[&str]) -> Table {
+        Table { left: head.len(), ..Table::new(head) }
     }
 
     pub fn row(&mut self, cells: Vec<String>) {
-        self.0.push(cells);
+        self.rows.push(cells);
     }
 }
 
 impl fmt::Display for Table {
-    /// The first column to the left, the others to the right.
     fn fmt(&self, out: &mut fmt::Formatter<'_>) -> fmt::Result {
-        let width = |column: usize| self.0.iter().map(|row| row[column].len()).max().unwrap_or(0);
-        for (number, row) in self.0.iter().enumerate() {
+        let width =
+            |column: usize| self.rows.iter().map(|row| row[column].len()).max().unwrap_or(0);
+        for (number, row) in self.rows.iter().enumerate() {
             for (column, cell) in row.iter().enumerate() {
-                match column {
-                    0 => write!(out, "| {cell:<0$} |", width(column))?,
-                    _ => write!(out, " {cell:>0$} |", width(column))?,
+                match column < self.left {
+                    true => write!(out, "| {cell:<0$} ", width(column))?,
+                    false => write!(out, "| {cell:>0$} ", width(column))?,
                 }
             }
-            writeln!(out)?;
+            writeln!(out, "|")?;
             if number == 0 {
                 for column in 0..row.len() {
-                    match column {
-                        0 => write!(out, "|:{}-|", "-".repeat(width(column)))?,
-                        _ => write!(out, "-{}:|", "-".repeat(width(column)))?,
+                    match column < self.left {
+                        true => write!(out, "|:{}-", "-".repeat(width(column)))?,
+                        false => write!(out, "|-{}:", "-".repeat(width(column)))?,
                     }
                 }
-                writeln!(out)?;
+                writeln!(out, "|")?;
             }
         }
         Ok(())

@@ -1,8 +1,8 @@
 /*
  * How much stack a command takes: the deepest commands that we know how to make, each on a thread whose stack is painted first.
  * A chain of 64 computeds, each with a formula nested 16 deep and its read innermost, is evaluated in one command: first, after
- * a write, and anew when nothing of it is linked any more. It prints the most bytes of stack that a call took; more than 512 KiB
- * is a failure.
+ * a write, and anew when nothing of it is linked any more, by a new effect and by one that a write makes run. It prints the most
+ * bytes of stack that a call took; more than 512 KiB is a failure.
  * Build: cc -Iinclude bindings/c/stack.c target/staticlib/libhost.a -lpthread -o stack
  */
 #define _POSIX_C_SOURCE 200809L
@@ -84,9 +84,9 @@ static int64_t send_words(int64_t code, int64_t first, int64_t second, size_t co
     return sent();
 }
 
-/* 1 + (1 + .. (node)), nested 16 deep. */
-static void deep(int64_t node) {
-    for (int i = 1; i < NESTING; i++) {
+/* 1 + (1 + .. (node)), nested so deep. */
+static void deep(int nesting, int64_t node) {
+    for (int i = 1; i < nesting; i++) {
         word(SIMMER_CELL_SUM);
         word(0);
         word(SIMMER_CELL_CONSTANT);
@@ -100,7 +100,22 @@ static int64_t effect_on(int64_t node) {
     length = 0;
     word(SIMMER_EFFECT);
     word(SIMMER_NO_OWNER);
-    deep(node);
+    deep(NESTING, node);
+    return sent();
+}
+
+/* It reads the node only while the lever is not 0. */
+static int64_t effect_behind(int64_t lever, int64_t node) {
+    length = 0;
+    word(SIMMER_EFFECT);
+    word(SIMMER_NO_OWNER);
+    word(SIMMER_CELL_CHOOSE);
+    word(0);
+    word(SIMMER_CELL_NODE);
+    word(lever);
+    deep(NESTING - 1, node);
+    word(SIMMER_CELL_CONSTANT);
+    word(0);
     return sent();
 }
 
@@ -121,14 +136,18 @@ int main(void) {
     for (int i = 0; i < HEIGHT; i++) {
         length = 0;
         word(SIMMER_COMPUTED);
-        deep(top);
+        deep(NESTING, top);
         top = sent();
     }
     send_words(SIMMER_READ, top, 0, 2);
     int64_t payout = effect_on(top);
     send_words(SIMMER_SET, 0, 6, 3);
     send_words(SIMMER_DISPOSE, payout, 0, 2);
-    effect_on(top);
+    payout = effect_on(top);
+    send_words(SIMMER_DISPOSE, payout, 0, 2);
+    int64_t lever = send_words(SIMMER_SIGNAL, 0, 0, 2);
+    effect_behind(lever, top);
+    send_words(SIMMER_SET, lever, 1, 3);
     printf("%zu bytes of stack\n", most);
     return most > 512 * 1024;
 }
