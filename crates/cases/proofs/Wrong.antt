@@ -7,9 +7,9 @@ use lib.IntN.{ℤ, pos}
 use lib.ListN.{replicate, getD}
 use Rattle.meaning.specs.Words.{nodeOf}
 use Rattle.meaning.specs.Cases.{small, rows, signalW, effectW, setW, readW, unowned}
-use Rattle.formula.specs.Trees.{read}
-use Rattle.operations.specs.Log.{rowWords}
-use Rattle.engine.specs.Command.{Answered}
+use Rattle.trees.specs.Trees.{read}
+use Rattle.operating.specs.Log.{rowWords}
+use Rattle.commanding.specs.Command.{Answered}
 use Rattle.cases.specs.Scripts.{Lent, left, emptyTables, answered}
 use Rattle.cases.specs.Wrong.{Engine, Keeps, RefusesEverything, ReadsBackZero, StoresNothing, SettlesFirstFlush, InventsRuns, idle, numbers}
 use Rattle.cases.proofs.AllCases.{tried-numbers}

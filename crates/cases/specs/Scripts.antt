@@ -9,9 +9,9 @@ use Rattle.primitive.specs.Words.{NODE, LINK}
 use Rattle.meaning.specs.State.{Room}
 use Rattle.meaning.specs.Words.{nodeOf}
 use Rattle.meaning.specs.Cases.{Told}
-use Rattle.operations.specs.Log.{rowWords}
-use Rattle.operations.specs.Emptying.{Emptied, emptying}
-use Rattle.engine.specs.Command.{Answered, commandIn}
+use Rattle.operating.specs.Log.{rowWords}
+use Rattle.operating.specs.Emptying.{Emptied, emptying}
+use Rattle.commanding.specs.Command.{Answered, commandIn}
 
 pub record Lent : Type 0 where
   pub nodes : List ℕ

@@ -5,10 +5,10 @@ use mathlib.Core.List.{List, [], _∷_}
 use Prim.Native.Nat.{ℕ}
 use lib.Dec.{eqb}
 use Rattle.primitive.specs.Words.{DEP, SUB, link}
-use Rattle.links.specs.Free.{isLive, live}
+use Rattle.linking.specs.Free.{isLive, live}
 use Rattle.lists.specs.Sum.{count}
 use Rattle.lists.specs.Each.{both}
-use Rattle.counts.specs.Counts.{slotRoom}
+use Rattle.counting.specs.Counts.{slotRoom}
 use Rattle.meaning.specs.Cases.{Case, case12, small, rows}
 use Rattle.cases.specs.Scripts.{emptyTables, answers, afterAll}
 

@@ -3,9 +3,9 @@ use mathlib.Core.Path.{_≡_}
 use mathlib.Core.List.{List, [], _∷_}
 use Prim.Native.Nat.{ℕ}
 use lib.IntN.{ℤ, pos}
-use Rattle.formula.specs.Trees.{read}
+use Rattle.trees.specs.Trees.{read}
 use Rattle.meaning.specs.Cases.{signalW, effectW, setW, readW, unowned}
-use Rattle.engine.specs.Command.{Answered, refused, commandIn}
+use Rattle.commanding.specs.Command.{Answered, refused, commandIn}
 use Rattle.cases.specs.Scripts.{Lent, left, answered}
 
 -- nodes, links, values, cells, log and the words of a command; the answer, and every word after it

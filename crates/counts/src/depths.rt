@@ -4,7 +4,7 @@ use primitive::rows::NODE;
 use primitive::words;
 ghost use mathlib.Core.Path.{_≡_};
 ghost use Prim.Native.Nat.{suc, min};
-ghost use Rattle.counts.specs.Depths.{mostOwnerDepth, depthUnder};
+ghost use Rattle.counting.specs.Depths.{mostOwnerDepth, depthUnder};
 
 pub const MOST_OWNER_DEPTH: u64 = 16;
 

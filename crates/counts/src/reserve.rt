@@ -11,7 +11,7 @@ use primitive::rows::SIGNAL;
 use primitive::words;
 ghost use mathlib.Core.Path.{_≡_};
 ghost use Prim.Native.Nat.{_+_, _*_, min};
-ghost use Rattle.counts.specs.Counts.{top, ownedLink, reserveOf, reserveIn, effectOf, liveEffectsIn};
+ghost use Rattle.counting.specs.Counts.{top, ownedLink, reserveOf, reserveIn, effectOf, liveEffectsIn};
 
 const TOP: u64 = 18446744073709551615;
 

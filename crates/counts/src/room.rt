@@ -2,7 +2,7 @@
 use primitive::rows::COUNT;
 use primitive::words;
 ghost use mathlib.Core.Path.{_≡_};
-ghost use Rattle.counts.specs.Counts.{nodeRoom, slotRoom, cellRoom, countedIn, withinMost, carryIn};
+ghost use Rattle.counting.specs.Counts.{nodeRoom, slotRoom, cellRoom, countedIn, withinMost, carryIn};
 
 pub const MOST_NODES: u64 = 1024;
 

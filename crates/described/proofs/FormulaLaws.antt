@@ -8,12 +8,12 @@ use lib.IntN.{ℤ}
 use lib.ListN.{length, take, drop}
 use borrow.Author.Tests.{le-leb, lt-leb}
 use Rattle.primitive.specs.Rows.{field}
-use Rattle.formula.specs.declared.cells.Cell.{Cell}
-use Rattle.formula.specs.declared.cells.Number.{Number}
-use Rattle.formula.specs.declared.cells.Number.the-variants.{Is, None}
-use Rattle.formula.specs.Cells.{nameOf, cellAt, orElse}
-use Rattle.formula.specs.Names.{named, allNamed}
-use Rattle.formula.proofs.ScanLaws.{named-turns, named-done}
+use Rattle.trees.specs.declared.cells.Cell.{Cell}
+use Rattle.trees.specs.declared.cells.Number.{Number}
+use Rattle.trees.specs.declared.cells.Number.the-variants.{Is, None}
+use Rattle.trees.specs.Cells.{nameOf, cellAt, orElse}
+use Rattle.trees.specs.Names.{named, allNamed}
+use Rattle.trees.proofs.ScanLaws.{named-turns, named-done}
 use Rattle.telling.specs.Formulas.{lowerRank, ownCells, allLower, readsLower, cellLower}
 
 module _ (nodes : List ℕ) (used : List ℤ) (n : ℕ) {start count : ℕ} (s : start ≡ field 16 nodes n 7) (k : count ≡ field 16 nodes n 8) where

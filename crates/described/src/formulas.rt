@@ -1,7 +1,5 @@
 // The formula of a node: where its cells lie, and what they may name.
 use crate::rank;
-use formula::cells::Cell;
-use formula::cells::Number;
 use formula::cells::cell_at;
 use formula::cells::name;
 use formula::legal::legal;
@@ -11,6 +9,8 @@ use primitive::rows::NODE;
 use primitive::rows::READS;
 use primitive::rows::START;
 use primitive::words;
+use trees::cells::Cell;
+use trees::cells::Number;
 ghost use mathlib.Core.Path.{_≡_};
 ghost use Rattle.telling.specs.Formulas.{ownCells, cellLower, readsLower, formulaIn};
 

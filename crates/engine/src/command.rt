@@ -5,7 +5,7 @@ use refusals::asks::cells_from;
 use refusals::commands::command_of;
 use refusals::table;
 ghost use mathlib.Core.Path.{_≡_};
-ghost use Rattle.engine.specs.Command.{answered, refusalOn, refusalIn, commandOn, commandIn};
+ghost use Rattle.commanding.specs.Command.{answered, refusalOn, refusalIn, commandOn, commandIn};
 
 // A refusal has value 0 and runs 0.
 pub struct Answer {

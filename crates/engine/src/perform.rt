@@ -1,5 +1,4 @@
 // Doing: what an accepted command does, once it is decided.
-use formula::cells::Number;
 use formula::cells::natural;
 use links::unlink::dispose;
 use making::new_computed;
@@ -13,12 +12,13 @@ use operations::writes::add;
 use operations::writes::set;
 use primitive::values::Value;
 use reads::read::read;
-use refusals::commands::Command;
+use refusing::commands::Command;
+use trees::cells::Number;
 ghost use mathlib.Core.Path.{_≡_};
-ghost use Rattle.reads.specs.Tables.{state};
-ghost use Rattle.operations.specs.Log.{ranTo};
+ghost use Rattle.reading.specs.Tables.{state};
+ghost use Rattle.operating.specs.Log.{ranTo};
 ghost use Rattle.meaning.specs.Words.{nodeOf};
-ghost use Rattle.engine.specs.Perform.{ownerWord, done, performed};
+ghost use Rattle.commanding.specs.Perform.{ownerWord, done, performed};
 
 // The value returned, and how many effects ran.
 pub struct Done {

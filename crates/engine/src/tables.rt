@@ -2,7 +2,7 @@
 use described::whole::described;
 use joined::joined;
 ghost use mathlib.Core.Path.{_≡_};
-ghost use Rattle.engine.specs.Tables.{wellFormedIn};
+ghost use Rattle.commanding.specs.Tables.{wellFormedIn};
 
 pub fn well_formed(nodes: &[u64], links: &[u64], values: &[i64], cells: &[i64]) -> bool
     ensures { λ r. ⌜ r ≡ wellFormedIn (now (nodes .entry)) (now (links .entry)) (now (values .entry)) (now (cells .entry)) ⌝ }

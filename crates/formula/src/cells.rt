@@ -1,31 +1,10 @@
 // One cell: a code and an operand, and the table of codes.
 use primitive::words;
+use trees::cells::Cell;
+use trees::cells::Number;
+use trees::cells::Op;
 ghost use mathlib.Core.Path.{_≡_};
-ghost use Rattle.formula.specs.Cells.{naturalOf, cellOf, bareOf, readOf, arityOf, nameOf, cellAt, endOf};
-
-// The operations of two arguments.
-pub enum Op {
-    Sum,
-    Difference,
-    Minimum,
-    Maximum,
-    Less,
-}
-
-// What a code and an operand say. Bad is no cell of the language.
-pub enum Cell {
-    Constant(i64),
-    Read(u64),
-    Two(Op),
-    Choose,
-    Bad,
-}
-
-// A number, or none.
-pub enum Number {
-    Is(u64),
-    None,
-}
+ghost use Rattle.trees.specs.Cells.{naturalOf, cellOf, bareOf, readOf, arityOf, nameOf, cellAt, endOf};
 
 pub fn natural(k: i64) -> Number
     ensures { λ r. ⌜ r ≡ naturalOf k ⌝ }

@@ -1,6 +1,4 @@
 // Whether a list of cells is a formula: one expression tree in prefix order, within the limits.
-use crate::cells::Cell;
-use crate::cells::Number;
 use crate::cells::arity;
 use crate::cells::cell_at;
 use crate::cells::name;
@@ -10,8 +8,10 @@ use primitive::rows::KIND;
 use primitive::rows::NODE;
 use primitive::rows::SIGNAL;
 use primitive::words;
+use trees::cells::Cell;
+use trees::cells::Number;
 ghost use mathlib.Core.Path.{_≡_};
-ghost use Rattle.formula.specs.Legal.{readableIn, knownIn, takesIn, oneAt, legalIn};
+ghost use Rattle.trees.specs.Legal.{readableIn, knownIn, takesIn, oneAt, legalIn};
 
 pub const MOST_CELLS: usize = 64;
 

@@ -1,14 +1,14 @@
 // What a list of cells names: how many read cells it has, and its height.
-use crate::cells::Cell;
-use crate::cells::Number;
 use crate::cells::cell_at;
 use crate::cells::name;
 use primitive::rows::LEVEL;
 use primitive::rows::NODE;
 use primitive::words;
+use trees::cells::Cell;
+use trees::cells::Number;
 ghost use mathlib.Core.Path.{_≡_};
 ghost use Prim.Native.Nat.{suc, min};
-ghost use Rattle.formula.specs.Names.{readCells, mostHeight, heightIn, isRead, tallerIn, tallestIn};
+ghost use Rattle.trees.specs.Names.{readCells, mostHeight, heightIn, isRead, tallerIn, tallestIn};
 
 pub const MOST_HEIGHT: u64 = 64;
 

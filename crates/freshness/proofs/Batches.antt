@@ -4,8 +4,8 @@ use mathlib.Core.Bool.{true, false}
 use mathlib.Core.List.{List, [], _∷_, _++_}
 use lib.IntN.{pos, negsuc}
 use Rattle.primitive.specs.Values.{sum, difference, minimum, maximum, less, clamp, same, sameNumber, isZero}
-use Rattle.formula.specs.Cells.{cellOf, codes, readOf, bareOf}
-use Rattle.formula.specs.Trees.{apply, written, size, names}
+use Rattle.trees.specs.Cells.{cellOf, codes, readOf, bareOf}
+use Rattle.trees.specs.Trees.{apply, written, size, names}
 use Rattle.meaning.specs.State.{up, below, empty}
 use Rattle.meaning.specs.Links.{provided, remove, each, renew, spent, insert, link, cut, lastLink, disposeW, unwatchedW, unlinkN}
 use Rattle.meaning.specs.Marks.{chain, calm, effects, notify, mark, prop, soil, wakes}

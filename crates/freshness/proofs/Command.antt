@@ -11,7 +11,7 @@ use borrow.Author.Tests.{not-true, eqb-true, eqb-false, eq-eqb, ne-eqb}
 use Rattle.primitive.specs.declared.flags.Named.{Named}
 use Rattle.primitive.specs.declared.values.Value.{Value}
 use Rattle.primitive.specs.Values.{value}
-use Rattle.formula.specs.Trees.{constant, names}
+use Rattle.trees.specs.Trees.{constant, names}
 use Rattle.meaning.specs.State.{St, Kind, signal, computed, effect, scope, Row, readable, f0, f1, f2, f6, nothing, up}
 use Rattle.meaning.specs.Setters.{withLog, withDepth}
 use Rattle.meaning.specs.Links.{dispose}

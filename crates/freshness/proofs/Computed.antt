@@ -10,7 +10,7 @@ use Rattle.primitive.specs.declared.flags.Named.{Named}
 use Rattle.primitive.specs.declared.values.Value.{Value}
 use Rattle.primitive.specs.Values.{same}
 use Rattle.primitive.proofs.ValueLaws.{same-yes}
-use Rattle.formula.specs.Trees.{worth, reads}
+use Rattle.trees.specs.Trees.{worth, reads}
 use Rattle.meaning.specs.State.{St, computed, effect, readable, unclean, deps, f1, up}
 use Rattle.meaning.specs.Setters.{setFl, setSto}
 use Rattle.meaning.specs.WellFormed.{In}

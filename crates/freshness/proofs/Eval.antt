@@ -8,7 +8,7 @@ use native.Mathlib.Omega.{arith}
 use lib.ListN.{length, length-append}
 use Rattle.primitive.specs.declared.values.Value.{Value}
 use Rattle.primitive.specs.Values.{isZero}
-use Rattle.formula.specs.Trees.{Tree, constant, read, two, choose, apply, chosen, worth, reads, names}
+use Rattle.trees.specs.Trees.{Tree, constant, read, two, choose, apply, chosen, worth, reads, names}
 use Rattle.meaning.specs.State.{St}
 use Rattle.meaning.specs.Reads.{Out, evalBy}
 use Rattle.meaning.specs.WellFormed.{In}

@@ -5,7 +5,7 @@ use mathlib.Core.Bool.{true, false}
 use mathlib.Core.List.{List, _∷_}
 use Prim.Native.Nat.{ℕ, _<_}
 use Rattle.primitive.specs.declared.values.Value.{Value}
-use Rattle.formula.specs.Trees.{Tree, reads}
+use Rattle.trees.specs.Trees.{Tree, reads}
 use Rattle.meaning.specs.State.{St, effect, readable}
 use Rattle.meaning.specs.WellFormed.{In}
 use Rattle.freshness.specs.Afresh.{paired, readings, Among, Differs}

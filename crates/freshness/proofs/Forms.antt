@@ -8,8 +8,8 @@ use native.Mathlib.Omega.{arith}
 use lib.ListN.{length, length-append}
 use Rattle.primitive.specs.declared.values.Value.{Value}
 use Rattle.primitive.specs.Values.{isZero}
-use Rattle.formula.specs.Trees.{Tree, constant, read, two, choose, chosen, worth, reads, names}
-use Rattle.formula.proofs.Local.{Agree, local}
+use Rattle.trees.specs.Trees.{Tree, constant, read, two, choose, chosen, worth, reads, names}
+use Rattle.trees.proofs.Local.{Agree, local}
 use Rattle.meaning.specs.WellFormed.{In}
 use Rattle.freshness.specs.Afresh.{paired, readings}
 use Rattle.meaning.proofs.Laws.{branch, in-left, in-right, in-cases}

@@ -7,7 +7,7 @@ use mathlib.Core.List.{List}
 use Prim.Native.Nat.{ℕ, _≤_, _<_}
 use Rattle.primitive.specs.declared.flags.Named.{Named}
 use Rattle.primitive.specs.declared.values.Value.{Value}
-use Rattle.formula.specs.Trees.{Tree, worth, reads}
+use Rattle.trees.specs.Trees.{Tree, worth, reads}
 use Rattle.meaning.specs.State.{St, Kind, signal, computed, effect, Row, readable, unclean}
 use Rattle.meaning.specs.Setters.{withQueue, withDepth, withLog, withStuck}
 use Rattle.meaning.specs.WellFormed.{In}

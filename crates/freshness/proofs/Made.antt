@@ -11,7 +11,7 @@ use lib.ListN.{length}
 use borrow.Author.Tests.{eqb-true, eqb-false}
 use Rattle.primitive.specs.declared.flags.Named.{Named}
 use Rattle.primitive.specs.declared.values.Value.{Value}
-use Rattle.formula.specs.Trees.{Tree, reads, names}
+use Rattle.trees.specs.Trees.{Tree, reads, names}
 use Rattle.meaning.specs.State.{St, Kind, computed, effect, readable, unclean, f2, f6, nothing, up}
 use Rattle.meaning.specs.Setters.{setFl}
 use Rattle.meaning.specs.Links.{headOf, lastOf, goesTo, isFrom, renew, insert, link}

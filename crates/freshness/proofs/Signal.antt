@@ -10,7 +10,7 @@ use Rattle.primitive.specs.declared.flags.Named.{Named}
 use Rattle.primitive.specs.declared.values.Value.{Value}
 use Rattle.primitive.specs.Values.{same}
 use Rattle.primitive.proofs.ValueLaws.{same-yes, yes-same}
-use Rattle.formula.specs.Trees.{reads}
+use Rattle.trees.specs.Trees.{reads}
 use Rattle.meaning.specs.State.{St, signal, computed, effect, readable, unclean, bare, f1, up}
 use Rattle.meaning.specs.Reads.{Ans, updSignal}
 use Rattle.meaning.proofs.Laws.{clash, either, up-same, up-other, up-by}

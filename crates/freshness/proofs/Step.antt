@@ -8,7 +8,7 @@ use native.Mathlib.Omega.{arith}
 use lib.ListN.{length, length-append}
 use Rattle.primitive.specs.declared.flags.Named.{Named}
 use Rattle.primitive.specs.declared.values.Value.{Value}
-use Rattle.formula.specs.Trees.{names}
+use Rattle.trees.specs.Trees.{names}
 use Rattle.meaning.specs.State.{St, readable, f1}
 use Rattle.meaning.specs.Links.{link}
 use Rattle.meaning.specs.Reads.{Ans, evalBy, settleW, readW}

@@ -9,7 +9,7 @@ use lib.Dec.{eqb}
 use borrow.Author.Tests.{eqb-true, eqb-false}
 use Rattle.primitive.specs.declared.flags.Named.{Named}
 use Rattle.primitive.specs.declared.values.Value.{Value}
-use Rattle.formula.specs.Trees.{reads}
+use Rattle.trees.specs.Trees.{reads}
 use Rattle.meaning.specs.State.{St, Kind, signal, computed, effect, scope, readable, unclean, bare, deps, f1, f17, withPending, raised, up}
 use Rattle.meaning.specs.Setters.{setFl}
 use Rattle.meaning.specs.Reads.{Ans, ans, firstW, checkW, updW, pendingW, freshW, fresh, settle}

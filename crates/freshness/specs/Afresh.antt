@@ -6,7 +6,7 @@ use mathlib.Core.List.{List, [], _∷_}
 use Prim.Native.Nat.{ℕ, zero, suc}
 use Rattle.primitive.specs.declared.values.Value.{Value}
 use Rattle.primitive.specs.Values.{same}
-use Rattle.formula.specs.Trees.{Tree, worth, reads}
+use Rattle.trees.specs.Trees.{Tree, worth, reads}
 use Rattle.meaning.specs.State.{St, Kind, signal, computed, effect, scope, Row, up}
 
 -- k bounds how far down formulas are followed: they name lower numbers only

@@ -5,7 +5,7 @@ use mathlib.Core.Option.{Option, none, some}
 use Prim.Native.Nat.{ℕ, zero, suc}
 use lib.IntN.{ℤ}
 use Rattle.primitive.specs.declared.values.Value.{Value}
-use Rattle.formula.specs.Trees.{Tree}
+use Rattle.trees.specs.Trees.{Tree}
 use Rattle.meaning.specs.State.{St}
 use Rattle.meaning.specs.Setters.{withLog}
 use Rattle.meaning.specs.Words.{Command, commandOf}

@@ -5,7 +5,7 @@ use mathlib.Core.Option.{Option, none}
 use Prim.Native.Nat.{ℕ, zero, suc}
 use lib.Dec.{eqb}
 use lib.IntN.{pos}
-use Rattle.formula.specs.Trees.{Tree, constant}
+use Rattle.trees.specs.Trees.{Tree, constant}
 use Rattle.meaning.specs.State.{Kind, signal, computed, effect, scope, Row, on, up}
 use Rattle.meaning.specs.Words.{Command, makeSignal, makeComputed, makeEffect, makeScope, setTo, addTo, readOf, disposeOf, batchStart, batchEnd, nodeOf, ownerOf, formulaOf}
 

@@ -2,12 +2,12 @@
 use engine::command::command;
 use operations::emptying::empty;
 use operations::log::number_word;
+use sequencing::steps::Why;
 use series::series;
-use series::steps::Why;
 ghost use mathlib.Core.Path.{_≡_};
-ghost use Rattle.operations.specs.Emptying.{emptied, emptying};
-ghost use Rattle.host.specs.Calls.{replied, called, callIn};
-ghost use Rattle.host.specs.Many.{whyNumber, manyReplied, calledMany, callsIn};
+ghost use Rattle.operating.specs.Emptying.{emptied, emptying};
+ghost use Rattle.hosting.specs.Calls.{replied, called, callIn};
+ghost use Rattle.hosting.specs.Many.{whyNumber, manyReplied, calledMany, callsIn};
 
 // Words of a reply: code, value, number of runs, and spare ones.
 const REPLY: usize = 8;

@@ -4,7 +4,7 @@ use counts::room::MOST_NODES;
 use counts::room::MOST_SLOTS;
 ghost use mathlib.Core.Path.{_≡_};
 ghost use Prim.Native.Nat.{_≤_};
-ghost use Rattle.host.specs.Sizes.{wordsFor, nodeWords, linkWords, valueWords, cellWords, logWords};
+ghost use Rattle.hosting.specs.Sizes.{wordsFor, nodeWords, linkWords, valueWords, cellWords, logWords};
 
 // n records and `header` more, of `each` words, where n is 1 to `most`.
 fn words_for(most: u64, header: u64, each: u64, n: u64) -> u64

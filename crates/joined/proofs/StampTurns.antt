@@ -8,16 +8,16 @@ use native.Mathlib.Numerals.{add-one}
 use lib.IntN.{ℤ}
 use lib.ListN.{length, set}
 use Rattle.primitive.specs.Rows.{field}
-use Rattle.formula.specs.declared.cells.Number.{Number}
-use Rattle.formula.specs.declared.cells.Number.the-variants.{Is, None}
-use Rattle.formula.specs.Cells.{nameOf, cellAt, orElse}
-use Rattle.formula.specs.Names.{named}
-use Rattle.formula.proofs.CellLaws.{cell-out}
-use Rattle.formula.specs.Legal.{readableIn}
+use Rattle.trees.specs.declared.cells.Number.{Number}
+use Rattle.trees.specs.declared.cells.Number.the-variants.{Is, None}
+use Rattle.trees.specs.Cells.{nameOf, cellAt, orElse}
+use Rattle.trees.specs.Names.{named}
+use Rattle.trees.proofs.CellLaws.{cell-out}
+use Rattle.trees.specs.Legal.{readableIn}
 use Rattle.lists.specs.Once.{stamp}
 use Rattle.lists.proofs.SumLaws.{bit-le}
 use Rattle.resting.specs.Depends.{readsKind}
-use Rattle.counts.specs.Counts.{countedIn, slotRoom}
+use Rattle.counting.specs.Counts.{countedIn, slotRoom}
 use Rattle.resting.specs.Named.{isReadLink, namesOf, stampCell, stampCells, stampNode, linksStamped, namedFrom}
 
 pub read-most : (t l : List ℕ) (x r : ℕ) → r ≡ isReadLink t l x → r ≤ 1

@@ -1,7 +1,6 @@
 // The read links of a node: how many they are, and that they go only to nodes that its read cells name.
 use crate::depends;
 use counts::room;
-use formula::cells::Number;
 use formula::cells::cell_at;
 use formula::cells::name;
 use formula::legal;
@@ -16,8 +15,9 @@ use primitive::rows::START;
 use primitive::slots;
 use primitive::slots::Slot;
 use primitive::words;
+use trees::cells::Number;
 ghost use mathlib.Core.Path.{_≡_};
-ghost use Rattle.counts.specs.Counts.{countedIn};
+ghost use Rattle.counting.specs.Counts.{countedIn};
 ghost use Rattle.resting.specs.Named.{isReadLink, readsFrom, stampCell, stampCells, stampNode, stamped, linksStamped, namedFrom, namedIn};
 
 // Words of a test's own memory: one for each node that tables may have.

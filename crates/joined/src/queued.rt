@@ -15,7 +15,7 @@ ghost use mathlib.Core.Path.{_≡_};
 ghost use Rattle.lists.specs.Sum.{bit, count};
 ghost use Rattle.lists.specs.Once.{spend};
 ghost use Rattle.primitive.specs.Queue.{queueOf};
-ghost use Rattle.counts.specs.Counts.{countedIn};
+ghost use Rattle.counting.specs.Counts.{countedIn};
 ghost use Rattle.resting.specs.Queued.{waitsOn, mayWait, lives, due, scanned, idle, queuedIn};
 
 const MOST_DEPTH: u64 = 64;

@@ -7,7 +7,7 @@ use primitive::slots;
 use primitive::slots::Slot;
 use primitive::words;
 ghost use mathlib.Core.Path.{_≡_};
-ghost use Rattle.links.specs.Free.{fresh, isLive, live, taken, released};
+ghost use Rattle.linking.specs.Free.{fresh, isLive, live, taken, released};
 
 pub fn is_live(links: &[u64], s: u64) -> bool
     ensures { λ r. ⌜ r ≡ isLive (now (links .entry)) s ⌝ }

@@ -2,6 +2,7 @@
 // the reserve keeps that from happening.
 use crate::free;
 use crate::neighbours;
+use linking::link::LinkInit;
 use primitive::rows::DEP;
 use primitive::rows::DEPS;
 use primitive::rows::DEPS_TAIL;
@@ -20,19 +21,9 @@ use primitive::slots::Slot;
 use primitive::version::Version;
 use primitive::words;
 ghost use mathlib.Core.Path.{_≡_};
-ghost use Rattle.links.specs.Free.{fresh};
-ghost use Rattle.links.specs.Table.{tab};
-ghost use Rattle.links.specs.Link.{names, newest, made, setBack, inserted, reused, linked};
-
-// The words of a new link; its next_sub is nothing.
-struct LinkInit {
-    version: u64,
-    dep: u64,
-    sub: u64,
-    prev_dep: u64,
-    next_dep: u64,
-    prev_sub: u64,
-}
+ghost use Rattle.linking.specs.Free.{fresh};
+ghost use Rattle.linking.specs.Table.{tab};
+ghost use Rattle.linking.specs.Link.{names, newest, made, setBack, inserted, reused, linked};
 
 // Whether the slot that w names depends on dep.
 fn names(links: &[u64], w: u64, dep: u64) -> bool

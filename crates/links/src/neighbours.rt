@@ -7,8 +7,8 @@ use primitive::slots;
 use primitive::slots::Slot;
 use primitive::words;
 ghost use mathlib.Core.Path.{_≡_};
-ghost use Rattle.links.specs.Table.{tab};
-ghost use Rattle.links.specs.Neighbours.{nextDep, setBeside};
+ghost use Rattle.linking.specs.Table.{tab};
+ghost use Rattle.linking.specs.Neighbours.{nextDep, setBeside};
 
 // What follows prev in sub's dependency list: the list's head where prev is nothing.
 pub fn next_dep(nodes: &[u64], links: &[u64], sub: u64, prev: u64) -> u64

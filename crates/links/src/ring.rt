@@ -21,8 +21,8 @@ use primitive::slots;
 use primitive::slots::Slot;
 use primitive::words;
 ghost use mathlib.Core.Path.{_≡_};
-ghost use Rattle.links.specs.Table.{tab};
-ghost use Rattle.links.specs.Ring.{isOnly, isMutable, reset, retired, cutOut, Unlinks, Unwatches, Disposes, Purges};
+ghost use Rattle.linking.specs.Table.{tab};
+ghost use Rattle.linking.specs.Ring.{isOnly, isMutable, reset, retired, cutOut, Unlinks, Unwatches, Disposes, Purges};
 
 // Whether the slot is its dependency's only subscriber.
 fn is_only(links: &[u64], s: u64) -> bool

@@ -2,8 +2,8 @@
 use crate::ring;
 use primitive::slots::Slot;
 ghost use mathlib.Core.Path.{_≡_};
-ghost use Rattle.links.specs.Table.{tab};
-ghost use Rattle.links.specs.Ring.{out, unlinked, unwatched, disposed, purged};
+ghost use Rattle.linking.specs.Table.{tab};
+ghost use Rattle.linking.specs.Ring.{out, unlinked, unwatched, disposed, purged};
 
 // Slot s leaves both of its lists and is free; the answer is what came after it among sub's dependencies. A slot that is not live is left alone, and nothing is answered.
 pub fn unlink(nodes: &mut [u64], links: &mut [u64], s: u64, sub: u64) -> Slot

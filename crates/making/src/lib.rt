@@ -3,6 +3,7 @@ use counts::depths::depth_under;
 use formula::scans::height;
 use formula::scans::read_cells;
 use links::link::link;
+use operating::making::Sort;
 use operations::log::write_row;
 use operations::runs::RUNNING;
 use operations::runs::end_run;
@@ -38,17 +39,9 @@ ghost use mathlib.Core.List.{List};
 ghost use Prim.Native.Nat.{ℕ, _+_};
 ghost use lib.IntN.{ℤ};
 ghost use lib.ListN.{set};
-ghost use Rattle.reads.specs.Tables.{state};
-ghost use Rattle.operations.specs.Log.{ranTo};
-ghost use Rattle.making.specs.Making.{hasRoom, described, valued, laid, made, make, owned, newSignal, newComputed, newScope, started, newEffect};
-
-// What a new node is, besides its formula. The owner is a word: 0 for none, else its number + 1.
-pub struct Sort {
-    pub kind: u64,
-    pub flags: Flags,
-    pub owner: u64,
-    pub level: u64,
-}
+ghost use Rattle.reading.specs.Tables.{state};
+ghost use Rattle.operating.specs.Log.{ranTo};
+ghost use Rattle.operating.specs.Making.{hasRoom, described, valued, laid, made, make, owned, newSignal, newComputed, newScope, started, newEffect};
 
 // Whether there is a row for one more node, and room for this many cells.
 fn has_room(nodes: &[u64], cells: &[i64], size: u64) -> bool

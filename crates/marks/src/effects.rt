@@ -13,7 +13,7 @@ use primitive::slots::Slot;
 use primitive::words;
 ghost use mathlib.Core.Path.{_≡_};
 ghost use Rattle.primitive.specs.Words.{nodeRows};
-ghost use Rattle.marks.specs.Notify.{queued, climbed, notified};
+ghost use Rattle.marking.specs.Notify.{queued, climbed, notified};
 
 // Without WATCHING, so that it is not queued twice.
 fn enqueue(nodes: &mut [u64], e: u64)

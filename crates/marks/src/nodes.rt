@@ -4,7 +4,7 @@ use primitive::rows::FLAGS;
 use primitive::rows::NODE;
 use primitive::words;
 ghost use mathlib.Core.Path.{_≡_};
-ghost use Rattle.marks.specs.Fields.{flagsOf, setFlags};
+ghost use Rattle.marking.specs.Fields.{flagsOf, setFlags};
 
 pub fn flags(nodes: &[u64], n: u64) -> Flags
     ensures { λ r. ⌜ r .bits ≡ flagsOf (now (nodes .entry)) n ⌝ }

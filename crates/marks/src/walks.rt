@@ -16,11 +16,11 @@ use primitive::stack;
 use primitive::stack::Popped;
 use primitive::words;
 ghost use mathlib.Core.Path.{_≡_};
-ghost use Rattle.marks.specs.Valid.{validLink};
-ghost use Rattle.marks.specs.Visits.{visit, after, stored, reached};
+ghost use Rattle.marking.specs.Valid.{validLink};
+ghost use Rattle.marking.specs.Visits.{visit, after, stored, reached};
 ghost use Rattle.primitive.specs.Stack.{pushed, pushedLen};
-ghost use Rattle.marks.specs.Walks.{place, below, walked, blank, propagated};
-ghost use Rattle.marks.specs.Shallow.{dirtied, shallow};
+ghost use Rattle.marking.specs.Walks.{place, below, walked, blank, propagated};
+ghost use Rattle.marking.specs.Shallow.{dirtied, shallow};
 
 // Flags that are tested together.
 const CHANGED: Flags = Flags {

@@ -11,8 +11,8 @@ use lib.IntN.{ℤ, pos, negsuc}
 use borrow.Author.Tests.{leb-false, ltb-true, ltb-false, not-true, not-false, eqb-false}
 use Rattle.primitive.specs.declared.values.Value.{Value}
 use Rattle.primitive.specs.Values.{value, same}
-use Rattle.formula.specs.Trees.{Tree, constant, size, nesting, names}
-use Rattle.formula.specs.Legal.{mostCells, mostNesting}
+use Rattle.trees.specs.Trees.{Tree, constant, size, nesting, names}
+use Rattle.trees.specs.Legal.{mostCells, mostNesting}
 use Rattle.meaning.specs.State.{St, Kind, signal, computed, effect, scope, Room, capacities, readable, on, f17, empty}
 use Rattle.meaning.specs.Setters.{withLog, withDepth, withQueue, setFl, setPend}
 use Rattle.meaning.specs.Links.{isNil}

@@ -8,7 +8,7 @@ use lib.IntN.{ℤ, pos, negsuc}
 use borrow.Author.Tests.{not-true, eqb-false}
 use Rattle.primitive.specs.declared.values.Value.{Value}
 use Rattle.primitive.specs.Values.{value, same}
-use Rattle.formula.specs.Trees.{constant, names}
+use Rattle.trees.specs.Trees.{constant, names}
 use Rattle.meaning.specs.State.{St, Kind, signal, computed, effect, scope, Row, readable, f0, f1, f17, nothing}
 use Rattle.meaning.specs.Setters.{withLog, withDepth, setFl, setPend}
 use Rattle.meaning.specs.Links.{isNil}

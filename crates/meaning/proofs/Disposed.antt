@@ -8,7 +8,7 @@ use Prim.Native.Nat.{ℕ, _+_, _<_}
 use native.Mathlib.Omega.{arith}
 use lib.IntN.{ℤ, pos}
 use borrow.Author.Tests.{not-true}
-use Rattle.formula.specs.Trees.{Tree}
+use Rattle.trees.specs.Trees.{Tree}
 use Rattle.meaning.specs.State.{St, Kind, signal, computed, effect, scope, readable, deps}
 use Rattle.meaning.specs.Setters.{withLog}
 use Rattle.meaning.specs.Links.{unlinkN, budget, dispose}

@@ -10,7 +10,7 @@ use lib.Dec.{eqb}
 use lib.ListN.{length}
 use borrow.Author.Tests.{eqb-true, eqb-false}
 use Rattle.primitive.specs.declared.flags.Named.{Named}
-use Rattle.formula.specs.Trees.{names}
+use Rattle.trees.specs.Trees.{names}
 use Rattle.meaning.specs.State.{St, Kind, signal, computed, effect, scope, readable, deps, f0, f17, up}
 use Rattle.meaning.specs.Setters.{setFl, setGone}
 use Rattle.meaning.specs.Links.{isNil, headOf, remove, each, cut, rewind, purgeW, lastLink, disposeW, unwatchedW, unlinkN, budget, purge, dispose}

@@ -5,7 +5,7 @@ use mathlib.Core.List.{List, [], _∷_, _++_}
 use Prim.Native.Nat.{ℕ, zero, suc, _+_, _≤_}
 use native.Mathlib.Omega.{arith}
 use Rattle.primitive.specs.Values.{same, isZero}
-use Rattle.formula.specs.Trees.{Tree, constant, read, two, choose, apply}
+use Rattle.trees.specs.Trees.{Tree, constant, read, two, choose, apply}
 use Rattle.meaning.specs.State.{St, Kind, signal, computed, effect, scope, deps, bare, hasValue, f1, f5, withPending, raised}
 use Rattle.meaning.specs.Setters.{setFl, setSto, withCycle}
 use Rattle.meaning.specs.Links.{provided, isNil, link, purge, rewind}

@@ -6,7 +6,7 @@ use mathlib.Core.Option.{Option, none, some}
 use Prim.Native.Nat.{ℕ, _≤_, _<_}
 use native.Mathlib.Omega.{arith}
 use lib.ListN.{length}
-use Rattle.formula.specs.Trees.{Tree, names}
+use Rattle.trees.specs.Trees.{Tree, names}
 use Rattle.meaning.specs.State.{St, effect, readable, f2, f6, nothing, up}
 use Rattle.meaning.specs.Setters.{setFl}
 use Rattle.meaning.specs.Reads.{evalBy, readW, fresh, evaluate}

@@ -10,14 +10,14 @@ use lib.Dec.{leb}
 use lib.IntN.{ℤ, pos}
 use lib.ListN.{length}
 use borrow.Author.Tests.{leb-true, le-leb}
-use Rattle.formula.specs.declared.cells.Op.{Op}
-use Rattle.formula.specs.declared.cells.Op.the-variants.{Sum, Difference, Minimum, Maximum, Less}
-use Rattle.formula.specs.declared.cells.Cell.{Cell}
-use Rattle.formula.specs.declared.cells.Cell.the-variants.{Constant, Read, Two, Choose, Bad}
-use Rattle.formula.specs.Cells.{cellOf, codes, readOf, bareOf}
-use Rattle.formula.specs.Trees.{Tree, constant, read, two, choose, codeOf, written, size, nesting}
-use Rattle.formula.specs.Legal.{mostCells, mostNesting}
-use Rattle.formula.proofs.Written.{WrittenAs, cell-written, length-written, regroup}
+use Rattle.trees.specs.declared.cells.Op.{Op}
+use Rattle.trees.specs.declared.cells.Op.the-variants.{Sum, Difference, Minimum, Maximum, Less}
+use Rattle.trees.specs.declared.cells.Cell.{Cell}
+use Rattle.trees.specs.declared.cells.Cell.the-variants.{Constant, Read, Two, Choose, Bad}
+use Rattle.trees.specs.Cells.{cellOf, codes, readOf, bareOf}
+use Rattle.trees.specs.Trees.{Tree, constant, read, two, choose, codeOf, written, size, nesting}
+use Rattle.trees.specs.Legal.{mostCells, mostNesting}
+use Rattle.trees.proofs.Written.{WrittenAs, cell-written, length-written, regroup}
 use Rattle.meaning.specs.Words.{word, noWord, Part, after, grown, parse, treeOf}
 use Rattle.meaning.proofs.Laws.{none-some, same-some}
 

@@ -8,7 +8,7 @@ use native.Mathlib.Omega.{arith}
 use lib.ListN.{length}
 use Rattle.primitive.specs.declared.flags.Named.{Named}
 use Rattle.primitive.specs.declared.values.Value.{Value}
-use Rattle.formula.specs.Trees.{names}
+use Rattle.trees.specs.Trees.{names}
 use Rattle.meaning.specs.State.{St, Kind, signal, computed, effect, scope, Row, readable, rank, deps, f1}
 use Rattle.meaning.specs.Setters.{withCycle, withSto, withPend, withDepth, withLog, withStuck}
 use Rattle.meaning.specs.Links.{cut, purge}

@@ -7,7 +7,7 @@ use Prim.Native.Nat.{ℕ, _≤_, _<_}
 use lib.Dec.{eqb}
 use lib.ListN.{length}
 use borrow.Author.Tests.{eqb-true, eqb-false}
-use Rattle.formula.specs.Trees.{names}
+use Rattle.trees.specs.Trees.{names}
 use Rattle.meaning.specs.State.{St, deps, up}
 use Rattle.meaning.specs.Links.{renew, insert}
 use Rattle.meaning.specs.WellFormed.{In, Once, Lists, readLinks, EffectFlags}

@@ -12,8 +12,8 @@ use borrow.Author.Tests.{eqb-true, eqb-false, ltb-true, ltb-false}
 use Rattle.primitive.specs.declared.flags.Named.{Named}
 use Rattle.primitive.specs.declared.values.Value.{Value}
 use Rattle.lists.proofs.SumLaws.{sum-same}
-use Rattle.formula.specs.Trees.{Tree, size, nesting, names}
-use Rattle.formula.specs.Legal.{mostCells, mostNesting}
+use Rattle.trees.specs.Trees.{Tree, size, nesting, names}
+use Rattle.trees.specs.Legal.{mostCells, mostNesting}
 use Rattle.meaning.specs.State.{St, Kind, signal, computed, effect, scope, readable, deps, up}
 use Rattle.meaning.specs.Engine.{tallest, levelOf, cellsOf, node}
 use Rattle.meaning.specs.Reserve.{total, reserveOf, reserve}

@@ -3,8 +3,8 @@ use mathlib.Core.Path.{_≡_, refl}
 use mathlib.Core.Bool.{true}
 use mathlib.Core.List.{[], _∷_}
 use Rattle.primitive.specs.Values.{sum, difference, minimum, maximum, less, clamp, same, sameNumber, isZero}
-use Rattle.formula.specs.Cells.{cellOf, codes, readOf, bareOf}
-use Rattle.formula.specs.Trees.{apply, written, size, names}
+use Rattle.trees.specs.Cells.{cellOf, codes, readOf, bareOf}
+use Rattle.trees.specs.Trees.{apply, written, size, names}
 use Rattle.meaning.specs.State.{up, below, empty}
 use Rattle.meaning.specs.Links.{provided, remove, each, renew, spent, insert, link, cut, lastLink, disposeW, unwatchedW, unlinkN}
 use Rattle.meaning.specs.Marks.{chain, calm, effects, notify, mark, prop, soil, wakes}
@@ -15,8 +15,8 @@ use Rattle.meaning.specs.Reserve.{total, reserve}
 use Rattle.meaning.specs.Refusals.{liveEffects, asksOf, isA, unknown, wrongNode, goneNode, allReadable, badFormula, tooHigh, noRoom, wrongDepth, fewRows, table as refusals, first, refusal}
 use Rattle.meaning.specs.Commands.{perform, performAny, answer, command}
 use lib.IntN.{pos}
-use Rattle.formula.specs.declared.cells.Op.the-variants.{Sum}
-use Rattle.formula.specs.Trees.{read, two}
+use Rattle.trees.specs.declared.cells.Op.the-variants.{Sum}
+use Rattle.trees.specs.Trees.{read, two}
 use Rattle.meaning.specs.State.{St, f0, deps}
 use Rattle.meaning.specs.Setters.{setFl, setGone}
 use Rattle.meaning.specs.Links.{rewind, dispose}

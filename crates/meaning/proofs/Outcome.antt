@@ -12,7 +12,7 @@ use borrow.Author.Tests.{eq-eqb, ltb-false, not-true}
 use Rattle.primitive.specs.declared.values.Value.{Value}
 use Rattle.primitive.specs.Values.{value, same}
 use Rattle.lists.specs.Sum.{count}
-use Rattle.formula.specs.Trees.{Tree, constant}
+use Rattle.trees.specs.Trees.{Tree, constant}
 use Rattle.meaning.specs.State.{St, Kind, signal, effect, scope, Row, readable, f0, f6, f17, nothing, up}
 use Rattle.meaning.specs.Setters.{withLog, withDepth, setFl, setPend}
 use Rattle.meaning.specs.Links.{isNil, dispose}

@@ -9,7 +9,7 @@ use native.Mathlib.Omega.{arith}
 use Rattle.primitive.specs.declared.flags.Named.{Named}
 use Rattle.primitive.specs.declared.values.Value.{Value}
 use Rattle.primitive.specs.Values.{isZero}
-use Rattle.formula.specs.Trees.{Tree, constant, read, two, choose}
+use Rattle.trees.specs.Trees.{Tree, constant, read, two, choose}
 use Rattle.meaning.specs.State.{St, Kind, signal, computed, effect, scope, Row, bare, hasValue, f0, f1, f2, f5, f6, f17, withPending, raised, deps}
 use Rattle.meaning.specs.Setters.{withCycle, withLog, withQueue, setFl, setSto, setGone}
 use Rattle.meaning.specs.Links.{stop, provided, isNil, headOf, lastOf, goesTo, isFrom, several, each, renew, insert, link, cut, rewind, purgeW, lastLink, disposeW, unwatchedW, unlinkN, budget, purge, dispose}

@@ -9,7 +9,7 @@ use native.Mathlib.Omega.{arith}
 use lib.Dec.{leb, ltb}
 use lib.ListN.{length, length-append}
 use borrow.Author.Tests.{le-ltb, lt-leb, leb-false, ltb-false}
-use Rattle.formula.specs.Trees.{names}
+use Rattle.trees.specs.Trees.{names}
 use Rattle.meaning.specs.State.{St, Kind, signal, computed, effect, scope, readable, deps}
 use Rattle.lists.specs.Sum.{bit}
 use Rattle.meaning.specs.Reserve.{total, ownedLink, reserveOf, reserve, liveLinks}

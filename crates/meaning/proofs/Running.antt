@@ -10,7 +10,7 @@ use lib.Dec.{eqb}
 use lib.ListN.{length, length-append}
 use borrow.Author.Tests.{eqb-true, eqb-false}
 use Rattle.primitive.specs.declared.flags.Named.{Named}
-use Rattle.formula.specs.Trees.{Tree}
+use Rattle.trees.specs.Trees.{Tree}
 use Rattle.meaning.specs.State.{St, Kind, effect, Row, readable, rank, deps, f1, f2, f6, raised, up}
 use Rattle.meaning.specs.Setters.{setFl, withCycle, withQueue}
 use Rattle.meaning.specs.Links.{rewind, purge}

@@ -7,8 +7,8 @@ use lib.IntN.{ℤ, pos, negsuc}
 use lib.ListN.{replicate}
 use Rattle.primitive.specs.declared.values.Value.{Value}
 use Rattle.primitive.specs.Values.{value, greatest}
-use Rattle.formula.specs.declared.cells.Op.the-variants.{Sum, Difference, Less}
-use Rattle.formula.specs.Trees.{Tree, constant, read, two, written}
+use Rattle.trees.specs.declared.cells.Op.the-variants.{Sum, Difference, Less}
+use Rattle.trees.specs.Trees.{Tree, constant, read, two, written}
 use Rattle.meaning.specs.State.{St, Room, Row, empty, deps}
 use Rattle.meaning.specs.Commands.{command}
 

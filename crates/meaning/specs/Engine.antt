@@ -7,7 +7,7 @@ use lib.IntN.{pos}
 use Rattle.primitive.specs.declared.flags.Named.{Named}
 use Rattle.primitive.specs.declared.values.Value.{Value}
 use Rattle.primitive.specs.Values.{same}
-use Rattle.formula.specs.Trees.{Tree, constant, size, names}
+use Rattle.trees.specs.Trees.{Tree, constant, size, names}
 use Rattle.meaning.specs.State.{St, Kind, signal, computed, effect, scope, aSignal, f0, f1, f2, f6, f17, nothing, raised}
 use Rattle.meaning.specs.Setters.{setKind, setForm, setOwner, setGone, setLevel, setFl, setSto, setPend, setDone, setRest, setSubs, withSize, withUsed, withQueue, withDepth, withCycle, withLog}
 use Rattle.meaning.specs.Links.{stop, provided, isNil, link, purge, rewind}

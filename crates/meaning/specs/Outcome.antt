@@ -8,7 +8,7 @@ use lib.Dec.{eqb}
 use lib.IntN.{ℤ, pos}
 use Rattle.primitive.specs.declared.values.Value.{Value}
 use Rattle.primitive.specs.Values.{value, sum}
-use Rattle.formula.specs.Trees.{Tree}
+use Rattle.trees.specs.Trees.{Tree}
 use Rattle.meaning.specs.State.{St, effect, Row, nothing}
 use Rattle.meaning.specs.Reads.{evaluate}
 use Rattle.meaning.specs.Engine.{entered}

@@ -5,7 +5,7 @@ use Prim.Native.Nat.{ℕ, zero, suc}
 use lib.Dec.{eqb}
 use Rattle.primitive.specs.declared.values.Value.{Value}
 use Rattle.primitive.specs.Values.{value, same, isZero}
-use Rattle.formula.specs.Trees.{Tree, constant, read, two, choose, apply}
+use Rattle.trees.specs.Trees.{Tree, constant, read, two, choose, apply}
 use Rattle.meaning.specs.State.{St, Kind, signal, computed, effect, scope, f1, f5, bare, hasValue, withPending, raised, deps}
 use Rattle.meaning.specs.Setters.{setFl, setSto, withCycle}
 use Rattle.meaning.specs.Links.{stop, provided, isNil, several, link, purge, rewind}

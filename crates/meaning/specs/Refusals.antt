@@ -6,8 +6,8 @@ use Prim.Native.Nat.{ℕ, zero, suc, _+_}
 use lib.Dec.{eqb, leb, ltb}
 use lib.IntN.{ℤ, pos, negsuc}
 use Rattle.lists.specs.Sum.{bit, count}
-use Rattle.formula.specs.Trees.{Tree, constant, names}
-pub use Rattle.formula.specs.Names.{mostHeight}
+use Rattle.trees.specs.Trees.{Tree, constant, names}
+pub use Rattle.trees.specs.Names.{mostHeight}
 use Rattle.meaning.specs.State.{St, Kind, signal, computed, effect, scope, Room, readable}
 pub use Rattle.meaning.specs.State.{on, aSignal}
 use Rattle.meaning.specs.Reserve.{reserveOf, reserve}

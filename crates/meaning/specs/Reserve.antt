@@ -5,7 +5,7 @@ use Prim.Native.Nat.{ℕ, _+_, _*_}
 use lib.ListN.{length}
 unfoldable pub use Rattle.lists.specs.Sum.{sum as total}
 use Rattle.lists.specs.Sum.{count}
-use Rattle.formula.specs.Trees.{Tree, names}
+use Rattle.trees.specs.Trees.{Tree, names}
 use Rattle.meaning.specs.State.{St, Kind, signal, computed, effect, scope}
 
 -- an owned node counts 1 more

@@ -5,7 +5,7 @@ use mathlib.Core.Option.{Option}
 use Prim.Native.Nat.{ℕ}
 use Rattle.primitive.specs.declared.flags.Named.{Named}
 use Rattle.primitive.specs.declared.values.Value.{Value}
-use Rattle.formula.specs.Trees.{Tree}
+use Rattle.trees.specs.Trees.{Tree}
 use Rattle.meaning.specs.State.{St, Kind, Row, up}
 
 abbrev pub withSize : St → ℕ → St

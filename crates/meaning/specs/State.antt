@@ -9,7 +9,7 @@ use lib.IntN.{pos}
 use Rattle.primitive.specs.declared.flags.Named.{Named}
 use Rattle.primitive.specs.declared.values.Value.{Value}
 use Rattle.primitive.specs.Values.{value}
-use Rattle.formula.specs.Trees.{Tree, constant}
+use Rattle.trees.specs.Trees.{Tree, constant}
 pub use Rattle.meaning.specs.Flags.{f0, f1, f2, f5, f6, f17, f32, f33, f48, f49, withPending, withDirty, withWatching}
 
 pub data Kind : Type 0 where

@@ -8,8 +8,8 @@ use mathlib.Core.Option.{Option, none, some}
 use Prim.Native.Nat.{ℕ, _≤_, _<_}
 use lib.ListN.{length}
 use Rattle.primitive.specs.declared.flags.Named.{Named}
-use Rattle.formula.specs.Trees.{Tree, size, nesting, names}
-use Rattle.formula.specs.Legal.{mostCells, mostNesting}
+use Rattle.trees.specs.Trees.{Tree, size, nesting, names}
+use Rattle.trees.specs.Legal.{mostCells, mostNesting}
 use Rattle.meaning.specs.State.{St, Kind, signal, computed, effect, scope, Room, capacities, readable, rank, deps, f0, f1, f2, f17, f32, f33, f48, f49}
 use Rattle.meaning.specs.Engine.{levelOf}
 use Rattle.meaning.specs.Reserve.{reserve}

@@ -6,11 +6,11 @@ use Prim.Native.Nat.{ℕ, zero, suc, _/_, _%_}
 use lib.Dec.{eqb, leb}
 use lib.IntN.{ℤ, pos, negsuc}
 use lib.ListN.{length}
-use Rattle.formula.specs.declared.cells.Cell.{Cell}
-use Rattle.formula.specs.declared.cells.Cell.the-variants.{Constant, Read, Two, Choose, Bad}
-use Rattle.formula.specs.Cells.{cellOf}
-use Rattle.formula.specs.Trees.{Tree, constant, read, two, choose}
-use Rattle.formula.specs.Legal.{mostCells, mostNesting}
+use Rattle.trees.specs.declared.cells.Cell.{Cell}
+use Rattle.trees.specs.declared.cells.Cell.the-variants.{Constant, Read, Two, Choose, Bad}
+use Rattle.trees.specs.Cells.{cellOf}
+use Rattle.trees.specs.Trees.{Tree, constant, read, two, choose}
+use Rattle.trees.specs.Legal.{mostCells, mostNesting}
 
 -- the ten commands, in the order of their codes; numbers of nodes and owners as they were given
 pub data Command : Type 0 where

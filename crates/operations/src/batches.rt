@@ -3,9 +3,9 @@ use crate::runs::flush;
 use primitive::rows::DEPTH;
 use primitive::words;
 ghost use mathlib.Core.Path.{_≡_};
-ghost use Rattle.reads.specs.Tables.{state};
-ghost use Rattle.operations.specs.Log.{ranTo};
-ghost use Rattle.operations.specs.Batches.{depthOf, started, endedBatch};
+ghost use Rattle.reading.specs.Tables.{state};
+ghost use Rattle.operating.specs.Log.{ranTo};
+ghost use Rattle.operating.specs.Batches.{depthOf, started, endedBatch};
 
 pub const MOST_DEPTH: u64 = 64;
 

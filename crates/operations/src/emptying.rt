@@ -7,7 +7,7 @@ use primitive::rows::NEXT_DEP;
 use primitive::words;
 ghost use mathlib.Core.Path.{_≡_};
 ghost use lib.IntN.{pos};
-ghost use Rattle.operations.specs.Emptying.{blank, freed, emptied, emptying};
+ghost use Rattle.operating.specs.Emptying.{blank, freed, emptied, emptying};
 
 fn clear(t: &mut [u64])
     ensures { λ _. ⌜ now (t .exit) ≡ blank 0 (now (t .entry)) ⌝ }

@@ -1,7 +1,7 @@
 // The log of runs: rows of two words, the effect's number and the value of its formula.
 use primitive::values::Value;
 ghost use mathlib.Core.Path.{_≡_};
-ghost use Rattle.operations.specs.Log.{numberWord, rowed, rowsIn};
+ghost use Rattle.operating.specs.Log.{numberWord, rowed, rowsIn};
 
 // A node's number is far below it.
 const HALF: u64 = 9223372036854775808;

@@ -16,9 +16,9 @@ use reads::tests::has;
 ghost use mathlib.Core.Path.{_≡_};
 ghost use mathlib.Core.List.{List};
 ghost use lib.IntN.{ℤ};
-ghost use Rattle.reads.specs.Tables.{state, told, got};
-ghost use Rattle.operations.specs.Log.{ranTo};
-ghost use Rattle.operations.specs.Runs.{begunRun, endedRun, finishedRun, reran, mustRun, ran, flushed};
+ghost use Rattle.reading.specs.Tables.{state, told, got};
+ghost use Rattle.operating.specs.Log.{ranTo};
+ghost use Rattle.operating.specs.Runs.{begunRun, endedRun, finishedRun, reran, mustRun, ran, flushed};
 
 pub const RUNNING: Flags = Flags {
     bits: Flags::WATCHING.bits | Flags::RECURSED_CHECK.bits,

@@ -12,9 +12,9 @@ use primitive::values::Value;
 use primitive::words;
 use reads::places;
 ghost use mathlib.Core.Path.{_≡_};
-ghost use Rattle.reads.specs.Tables.{state};
-ghost use Rattle.operations.specs.Log.{ranTo};
-ghost use Rattle.operations.specs.Writes.{written, added};
+ghost use Rattle.reading.specs.Tables.{state};
+ghost use Rattle.operating.specs.Log.{ranTo};
+ghost use Rattle.operating.specs.Writes.{written, added};
 
 const STALE: Flags = Flags {
     bits: Flags::MUTABLE.bits | Flags::DIRTY.bits,

@@ -5,10 +5,10 @@ use mathlib.Core.List.{List, [], _∷_}
 use Prim.Native.Nat.{ℕ, _<_, _^_}
 use native.Mathlib.Omega.{arith}
 use lib.IntN.{ℤ}
-use Rattle.counts.specs.Counts.{carryIn}
-use Rattle.refusals.specs.Sight.{roomIn}
-use Rattle.operations.specs.Emptying.{emptying}
-use Rattle.engine.specs.Command.{Answered}
+use Rattle.counting.specs.Counts.{carryIn}
+use Rattle.refusing.specs.Sight.{roomIn}
+use Rattle.operating.specs.Emptying.{emptying}
+use Rattle.commanding.specs.Command.{Answered}
 use Rattle.meaning.specs.State.{empty}
 use Rattle.freshness.specs.History.{Reply, Past, told, begun, inCalls}
 use Rattle.freshness.proofs.NoWeaker.{one-right, told-many, upTo, upTo-told}

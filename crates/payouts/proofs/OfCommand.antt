@@ -5,9 +5,9 @@ use mathlib.Core.Bool.{true}
 use mathlib.Core.List.{List, [], _∷_, _++_}
 use Prim.Native.Nat.{ℕ}
 use lib.IntN.{ℤ}
-use Rattle.counts.specs.Counts.{carryIn}
-use Rattle.refusals.specs.Sight.{roomIn}
-use Rattle.operations.specs.Emptying.{emptying}
+use Rattle.counting.specs.Counts.{carryIn}
+use Rattle.refusing.specs.Sight.{roomIn}
+use Rattle.operating.specs.Emptying.{emptying}
 use Rattle.meaning.specs.State.{Room, capacities, empty}
 use Rattle.freshness.specs.History.{Call, seen, meant, Course, now, after, begin}
 use Rattle.freshness.specs.Right.{Demand3}

@@ -7,8 +7,8 @@ use native.Mathlib.Omega.{arith}
 use lib.IntN.{ℤ, pos, negsuc}
 use lib.ListN.{replicate, length, drop}
 use Rattle.primitive.specs.Values.{value, sum, difference, minimum, maximum, less, clamp, same, sameNumber, isZero}
-use Rattle.formula.specs.Cells.{cellOf, codes, readOf, bareOf}
-use Rattle.formula.specs.Trees.{apply, written, size, names}
+use Rattle.trees.specs.Cells.{cellOf, codes, readOf, bareOf}
+use Rattle.trees.specs.Trees.{apply, written, size, names}
 use Rattle.meaning.specs.State.{up, below, empty}
 use Rattle.meaning.specs.Links.{provided, remove, each, renew, spent, insert, link, cut, lastLink, disposeW, unwatchedW, unlinkN}
 use Rattle.meaning.specs.Marks.{chain, calm, effects, notify, mark, prop, soil, wakes}
@@ -20,11 +20,11 @@ use Rattle.meaning.specs.Refusals.{liveEffects, asksOf, isA, unknown, wrongNode
 use Rattle.meaning.specs.Commands.{perform, performAny, answer, command}
 use Rattle.meaning.specs.Evaluations.{inFormula, inUpdate, inCheckOn, inCheck, inPending, countFirst, countFlushOn, countFresh, countFreshW, countNewEffect, countPerform, countRerun, countRun, countStore}
 use Rattle.meaning.specs.State.{St, Row}
-use Rattle.counts.specs.Counts.{wholeRows, withinMost, withinAll, carryIn}
-use Rattle.refusals.specs.Sight.{roomIn}
-use Rattle.operations.specs.Log.{rowWords}
-use Rattle.operations.specs.Emptying.{emptying}
-use Rattle.engine.specs.Command.{answered}
+use Rattle.counting.specs.Counts.{wholeRows, withinMost, withinAll, carryIn}
+use Rattle.refusing.specs.Sight.{roomIn}
+use Rattle.operating.specs.Log.{rowWords}
+use Rattle.operating.specs.Emptying.{emptying}
+use Rattle.commanding.specs.Command.{answered}
 use Rattle.freshness.specs.Evaluations.{inPerformAny, inAnswer}
 use Rattle.freshness.specs.History.{Reply, meant, replies, inCall, inCalls, Past, told, begun}
 use Rattle.freshness.specs.Right.{Right, RightLog}

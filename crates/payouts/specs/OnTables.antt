@@ -6,11 +6,11 @@ use mathlib.Core.List.{List, [], _∷_}
 use Prim.Native.Nat.{ℕ, _<_, _/_, _^_}
 use lib.IntN.{ℤ}
 use lib.ListN.{length}
-use Rattle.counts.specs.Counts.{carryIn}
-use Rattle.refusals.specs.Sight.{roomIn}
-use Rattle.operations.specs.Log.{rowWords}
-use Rattle.operations.specs.Emptying.{emptying}
-use Rattle.engine.specs.Command.{Answered}
+use Rattle.counting.specs.Counts.{carryIn}
+use Rattle.refusing.specs.Sight.{roomIn}
+use Rattle.operating.specs.Log.{rowWords}
+use Rattle.operating.specs.Emptying.{emptying}
+use Rattle.commanding.specs.Command.{Answered}
 use Rattle.meaning.specs.State.{St}
 use Rattle.freshness.specs.History.{Call, Reply, Past, told, begun}
 use Rattle.freshness.specs.Right.{Right, Held}

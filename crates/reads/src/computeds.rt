@@ -13,8 +13,8 @@ ghost use mathlib.Core.Path.{_≡_};
 ghost use mathlib.Core.List.{List};
 ghost use Prim.Native.Nat.{ℕ};
 ghost use lib.IntN.{ℤ};
-ghost use Rattle.reads.specs.Tables.{state, told};
-ghost use Rattle.reads.specs.Steps.{begun, finished, begunFirst, finishedFirst};
+ghost use Rattle.reading.specs.Tables.{state, told};
+ghost use Rattle.reading.specs.Steps.{begun, finished, begunFirst, finishedFirst};
 
 const EVALUATING: Flags = Flags {
     bits: Flags::MUTABLE.bits | Flags::RECURSED_CHECK.bits,

@@ -3,7 +3,7 @@ use primitive::rows::CYCLE;
 use primitive::version::Version;
 use primitive::words;
 ghost use mathlib.Core.Path.{_≡_};
-ghost use Rattle.reads.specs.Tables.{cycleOf, raised};
+ghost use Rattle.reading.specs.Tables.{cycleOf, raised};
 
 pub fn cycle(links: &[u64]) -> Version
     ensures { λ r. ⌜ r .cycle ≡ cycleOf (now (links .entry)) ⌝ }

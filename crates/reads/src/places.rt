@@ -2,7 +2,7 @@
 use primitive::values;
 use primitive::values::Value;
 ghost use mathlib.Core.Path.{_≡_};
-ghost use Rattle.reads.specs.Tables.{currentOf, pendingOf, setCurrent, setPending};
+ghost use Rattle.reading.specs.Tables.{currentOf, pendingOf, setCurrent, setPending};
 
 pub fn current(values: &[i64], n: u64) -> Value
     ensures { λ r. ⌜ r ≡ currentOf (now (values .entry)) n ⌝ }

@@ -7,8 +7,8 @@ use primitive::rows::START;
 use primitive::values::Value;
 use primitive::words;
 ghost use mathlib.Core.Path.{_≡_};
-ghost use Rattle.reads.specs.Tables.{state, told, got};
-ghost use Rattle.reads.specs.Read.{readOf, checked, evaluatedFor};
+ghost use Rattle.reading.specs.Tables.{state, told, got};
+ghost use Rattle.reading.specs.Read.{readOf, checked, evaluatedFor};
 
 // A read that no node makes: its value, up to date.
 pub fn read(

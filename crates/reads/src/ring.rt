@@ -13,8 +13,6 @@ use crate::tests::has;
 use crate::tests::has_all;
 use crate::wakes::wake;
 use crate::wakes::wake_others;
-use formula::cells::Cell;
-use formula::cells::Op;
 use formula::cells::cell_at;
 use formula::cells::end;
 use formula::legal::MOST_NESTING;
@@ -35,13 +33,15 @@ use primitive::slots;
 use primitive::slots::Slot;
 use primitive::values::Value;
 use primitive::words;
+use trees::cells::Cell;
+use trees::cells::Op;
 ghost use mathlib.Core.Path.{_≡_};
 ghost use Prim.Native.Nat.{ℕ, _≤_, _<_};
 ghost use lib.IntN.{pos};
 ghost use Rattle.primitive.specs.Values.{value};
-ghost use Rattle.formula.specs.Trees.{apply};
-ghost use Rattle.reads.specs.Tables.{state, told, got, evaluated};
-ghost use Rattle.reads.specs.Ring.{Enough, Below, readBy, twoBy, chooseBy, evaluatedBy, updatedComputedBy, firstBy, updatedBy, settledBy, pendingBy, dependencyBy, dirtyBy, checkedBy, renewedBy, surelyBy, refreshedComputedBy, refreshedBy};
+ghost use Rattle.trees.specs.Trees.{apply};
+ghost use Rattle.reading.specs.Tables.{state, told, got, evaluated};
+ghost use Rattle.reading.specs.Ring.{Enough, Below, readBy, twoBy, chooseBy, evaluatedBy, updatedComputedBy, firstBy, updatedBy, settledBy, pendingBy, dependencyBy, dirtyBy, checkedBy, renewedBy, surelyBy, refreshedComputedBy, refreshedBy};
 
 const STALE: Flags = Flags {
     bits: Flags::MUTABLE.bits | Flags::DIRTY.bits,

@@ -8,8 +8,8 @@ use primitive::flags::Flags;
 ghost use mathlib.Core.Path.{_≡_};
 ghost use mathlib.Core.List.{List};
 ghost use Prim.Native.Nat.{ℕ};
-ghost use Rattle.reads.specs.Tables.{state, told};
-ghost use Rattle.reads.specs.Steps.{updatedSignal, refreshedSignal};
+ghost use Rattle.reading.specs.Tables.{state, told};
+ghost use Rattle.reading.specs.Steps.{updatedSignal, refreshedSignal};
 
 // Whether that changed it.
 pub fn update_signal(nodes: &mut [u64], values: &mut [i64], n: u64) -> bool

@@ -1,7 +1,7 @@
 // Tests of the flag byte.
 use primitive::flags::Flags;
 ghost use mathlib.Core.Path.{_≡_};
-ghost use Rattle.marks.specs.Fields.{has, hasOnly};
+ghost use Rattle.marking.specs.Fields.{has, hasOnly};
 
 // Whether one of these bits is set.
 pub fn has(f: Flags, bits: Flags) -> bool

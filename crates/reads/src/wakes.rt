@@ -8,7 +8,7 @@ use primitive::slots;
 use primitive::slots::Slot;
 use primitive::words;
 ghost use mathlib.Core.Path.{_≡_};
-ghost use Rattle.reads.specs.Steps.{woken, wokenOthers};
+ghost use Rattle.reading.specs.Steps.{woken, wokenOthers};
 
 pub fn wake(nodes: &mut [u64], links: &[u64], n: u64)
     ensures { λ _. ⌜ now (nodes .exit) ≡ woken (now (links .entry)) (now (nodes .entry)) n ⌝ }

@@ -1,36 +1,16 @@
 // What a command asks of the tables, told in one way for all ten.
-use crate::commands::Command;
 use crate::commands::command_of;
 use primitive::rows::COMPUTED;
 use primitive::rows::EFFECT;
 use primitive::rows::SCOPE;
 use primitive::rows::SIGNAL;
+use refusing::asks::Asks;
+use refusing::asks::Takes;
+use refusing::commands::Command;
 ghost use mathlib.Core.Path.{_≡_};
 ghost use Rattle.meaning.specs.Words.{commandOf};
-ghost use Rattle.refusals.specs.Commands.{brief};
-ghost use Rattle.refusals.specs.Asked.{asked, namesOne, makesOne, cellsFrom};
-
-// The kinds of node that a command takes.
-pub enum Takes {
-    Signals,
-    Readable,
-    Owners,
-}
-
-pub struct Asks {
-    // whether it names a node, which, and of what kinds
-    pub names: bool,
-    pub node: i64,
-    pub takes: Takes,
-    // to dispose it
-    pub ends: bool,
-    // the kind of the new node, 0 if there is none
-    pub makes: u64,
-    // its owner, -1 if it has none
-    pub owner: i64,
-    // where the cells of its formula begin in the words, 0 if it has none
-    pub from: usize,
-}
+ghost use Rattle.refusing.specs.Commands.{brief};
+ghost use Rattle.refusing.specs.Asked.{asked, namesOne, makesOne, cellsFrom};
 
 // The -1 that means no owner.
 const NOBODY: i64 = -1;

@@ -1,19 +1,19 @@
 // Rows 8 and 9 of the table: the batch depth, and the rows of the log.
-use crate::commands::Command;
 use crate::commands::command_of;
 use counts::reserve::live_effects;
 use counts::room::counted;
 use primitive::rows::DEPTH;
 use primitive::words;
+use refusing::commands::Command;
 ghost use mathlib.Core.Path.{_≡_};
 ghost use mathlib.Core.List.{[]};
 ghost use Prim.Native.Nat.{max};
 ghost use lib.Dec.{leb};
-ghost use Rattle.counts.specs.Counts.{countedIn};
+ghost use Rattle.counting.specs.Counts.{countedIn};
 ghost use Rattle.meaning.specs.Words.{commandOf};
 ghost use Rattle.meaning.specs.Refusals.{on, flushRows, wrongDepth, fewRows};
-ghost use Rattle.refusals.specs.Sight.{nodesAlone, sightIn};
-ghost use Rattle.refusals.specs.Asked.{wanted};
+ghost use Rattle.refusing.specs.Sight.{nodesAlone, sightIn};
+ghost use Rattle.refusing.specs.Asked.{wanted};
 
 pub const MOST_DEPTH: u64 = 64;
 

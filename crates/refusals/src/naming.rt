@@ -1,9 +1,7 @@
 // Rows 2 to 4 of the table: the command, and the nodes that it names.
-use crate::asks::Takes;
 use crate::asks::asks_of;
 use crate::commands::command_of;
 use crate::commands::number;
-use formula::cells::Number;
 use formula::cells::natural;
 use primitive::rows::COMPUTED;
 use primitive::rows::COUNT;
@@ -12,13 +10,15 @@ use primitive::rows::KIND;
 use primitive::rows::NODE;
 use primitive::rows::SIGNAL;
 use primitive::words;
+use refusing::asks::Takes;
+use trees::cells::Number;
 ghost use mathlib.Core.Path.{_≡_};
 ghost use mathlib.Core.Bool.{_&&_};
 ghost use Rattle.meaning.specs.State.{readable};
 ghost use Rattle.meaning.specs.Words.{commandOf};
 ghost use Rattle.meaning.specs.Refusals.{on, unknown, isA, wrongOwner, wrongNode, isGone, goneNode};
-ghost use Rattle.refusals.specs.Sight.{kindOf, nodesAlone};
-ghost use Rattle.refusals.specs.Asked.{taken, nodeAsked, wrongNamed};
+ghost use Rattle.refusing.specs.Sight.{kindOf, nodesAlone};
+ghost use Rattle.refusing.specs.Asked.{taken, nodeAsked, wrongNamed};
 
 // 2: unknown command code or wrong word count.
 pub fn unknown(words: &[i64]) -> bool

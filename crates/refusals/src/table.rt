@@ -8,7 +8,7 @@ use crate::naming::wrong_node;
 ghost use mathlib.Core.Path.{_≡_};
 ghost use mathlib.Core.Bool.{true};
 ghost use Rattle.meaning.specs.Refusals.{refusal};
-ghost use Rattle.refusals.specs.Sight.{sightIn};
+ghost use Rattle.refusing.specs.Sight.{sightIn};
 
 // The refusal of a command on tables that are well formed, with so many rows of the log; 0 if there is none.
 pub fn refusal(nodes: &[u64], links: &[u64], cells: &[i64], rows: u64, words: &[i64]) -> u64

@@ -8,10 +8,10 @@ use lib.IntN.{ℤ, pos}
 use lib.ListN.{set}
 use Rattle.primitive.specs.Rows.{field, hasField}
 use Rattle.primitive.specs.Queue.{count, queueOf, entries, entryAt}
-use Rattle.formula.specs.Cells.{readOf, bareOf, codes, cellOf, nameOf, cellAt}
-use Rattle.formula.specs.Legal.{readKind, readableIn}
-use Rattle.formula.specs.Names.{named}
-use Rattle.counts.specs.Counts.{countedIn}
+use Rattle.trees.specs.Cells.{readOf, bareOf, codes, cellOf, nameOf, cellAt}
+use Rattle.trees.specs.Legal.{readKind, readableIn}
+use Rattle.trees.specs.Names.{named}
+use Rattle.counting.specs.Counts.{countedIn}
 use Rattle.lists.specs.Sum.{sum}
 use Rattle.lists.specs.Walk.{slots, run, runs}
 use Rattle.lists.specs.Each.{every, along, tally}

@@ -9,7 +9,7 @@ use lib.IntN.{ℤ}
 use Rattle.primitive.specs.Rows.{field}
 use Rattle.lists.specs.Sum.{All}
 use Rattle.lists.proofs.EachLaws.{both-true, true-both, every-sound, every-complete, all-map}
-use Rattle.counts.specs.Counts.{countedIn, mostNodes}
+use Rattle.counting.specs.Counts.{countedIn, mostNodes}
 use Rattle.resting.specs.Linked.{isLive, linkedIn}
 use Rattle.resting.specs.Depends.{dependsAt, ownedAt}
 use Rattle.resting.specs.Named.{namedIn}

@@ -20,7 +20,7 @@ use Rattle.lists.proofs.Many.{sounds, completes}
 use Rattle.lists.proofs.EachLaws.{both-true, true-both}
 use Rattle.lists.proofs.Exact.{count-not, lengths-le, each-once, long-enough}
 use Rattle.resting.specs.declared.linked.Side.{Side}
-use Rattle.counts.specs.Counts.{countedIn, slotRoom}
+use Rattle.counting.specs.Counts.{countedIn, slotRoom}
 use Rattle.resting.specs.Linked.{subscribers, dependencies, isLive, fits, spare, walks, frees, linkedIn}
 use Rattle.resting.specs.AtRest.{listFrom, subsOf, depsOf, freeOf, Listed, FreeList, Linked}
 

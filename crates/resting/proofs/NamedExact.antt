@@ -9,12 +9,12 @@ use lib.IntN.{ℤ}
 use lib.ListN.{getD, length}
 use borrow.Author.Tests.{eq-eqb, eqb-true, eqb-false}
 use Rattle.primitive.specs.Rows.{field}
-use Rattle.formula.specs.Legal.{readableIn}
+use Rattle.trees.specs.Legal.{readableIn}
 use Rattle.lists.specs.Sum.{All, occ}
 use Rattle.lists.specs.Each.{pick}
 use Rattle.lists.proofs.EachLaws.{cond-true, true-cond, all-map, all-zip, along-sound, along-complete}
 use Rattle.lists.proofs.Stamps.{stamped-sound, stamped-complete, stamp-le, length-stamp}
-use Rattle.counts.specs.Counts.{countedIn, mostNodes, slotRoom}
+use Rattle.counting.specs.Counts.{countedIn, mostNodes, slotRoom}
 use Rattle.resting.specs.Blank.{blank}
 use Rattle.resting.specs.Named.{namesOf, stampNode, stamped, linksStamped, namedFrom, namedIn}
 use Rattle.resting.specs.AtRest.{depsOf, Named}

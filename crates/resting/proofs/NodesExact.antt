@@ -9,11 +9,11 @@ use lib.Dec.{eqb, ltb, leb}
 use lib.ListN.{length}
 use borrow.Author.Tests.{eq-eqb, ne-eqb, eqb-true, eqb-false, ltb-true, lt-ltb, leb-true, le-leb, not-true}
 use Rattle.primitive.specs.Rows.{field}
-use Rattle.formula.specs.Legal.{readableIn}
+use Rattle.trees.specs.Legal.{readableIn}
 use Rattle.lists.specs.Each.{both, either, pick}
 use Rattle.lists.proofs.SumLaws.{clash}
 use Rattle.lists.proofs.EachLaws.{both-true, true-both, either-true, true-either, pick-true, all-map, along-sound, along-complete, tally-keep}
-use Rattle.counts.specs.Counts.{countedIn, slotRoom}
+use Rattle.counting.specs.Counts.{countedIn, slotRoom}
 use Rattle.resting.specs.Depends.{readsKind, ownsKind, mayOn, ownerIs, mayDepend, dependsOn, dependsAt, onlyTo, ownedOn, ownedAt}
 use Rattle.resting.specs.Named.{readsFrom}
 use Rattle.resting.specs.Flagged.{signalFlags, computedFlags, effectFlags, goneFlags, flagsOn}

@@ -13,7 +13,7 @@ use Rattle.lists.specs.Sum.{count}
 use Rattle.lists.specs.Each.{pick}
 use Rattle.lists.proofs.EachLaws.{both-true, true-both, all-map}
 use Rattle.lists.proofs.OnceLaws.{once-sound, once-complete}
-use Rattle.counts.specs.Counts.{countedIn, mostNodes}
+use Rattle.counting.specs.Counts.{countedIn, mostNodes}
 use Rattle.resting.specs.Blank.{blank}
 use Rattle.resting.specs.Queued.{waitsOn, mayWait, lives, due, scanned, idle, queuedIn}
 use Rattle.resting.specs.AtRest.{Waits, Queued}

@@ -8,11 +8,11 @@ use lib.IntN.{ℤ}
 use lib.ListN.{getD, length}
 use Rattle.primitive.specs.Words.{SIGNAL, COMPUTED, EFFECT, SCOPE, FLAGS, KIND, GONE, DEPS, DEPS-TAIL, SUBS, SUBS-TAIL, READS, OWNER, DEPTH, QUEUE, DEP, SUB, PREV-SUB, NEXT-SUB, PREV-DEP, NEXT-DEP, FREE, node, link}
 use Rattle.primitive.specs.Queue.{queueOf}
-use Rattle.formula.specs.Legal.{readableIn}
+use Rattle.trees.specs.Legal.{readableIn}
 use Rattle.lists.specs.Sum.{All, occ}
 use Rattle.lists.specs.Walk.{slots}
 use Rattle.lists.specs.Each.{keep}
-use Rattle.counts.specs.Counts.{countedIn, slotRoom}
+use Rattle.counting.specs.Counts.{countedIn, slotRoom}
 use Rattle.resting.specs.Linked.{isLive}
 use Rattle.resting.specs.Depends.{rank}
 use Rattle.resting.specs.Named.{namesOf}

@@ -2,7 +2,7 @@
 use Prim.Native.Nat.{ℕ}
 use mathlib.Core.List.{List}
 use lib.ListN.{replicate}
-use Rattle.counts.specs.Counts.{mostNodes}
+use Rattle.counting.specs.Counts.{mostNodes}
 
 -- a word for each node, all 0
 unfoldable pub blank : List ℕ

@@ -4,9 +4,9 @@ use mathlib.Core.Bool.{Bool, true, false}
 use mathlib.Core.List.{List}
 use lib.Dec.{eqb, ltb}
 use Rattle.primitive.specs.Words.{COMPUTED, EFFECT, SCOPE, KIND, GONE, OWNER, DEPS, SUBS, DEP, SUB, NEXT-SUB, NEXT-DEP, node, link}
-use Rattle.formula.specs.Legal.{readableIn}
+use Rattle.trees.specs.Legal.{readableIn}
 use Rattle.lists.specs.Each.{both, either, pick, along}
-use Rattle.counts.specs.Counts.{slotRoom}
+use Rattle.counting.specs.Counts.{slotRoom}
 
 -- computeds and effects read; effects and scopes own
 abbrev pub readsKind : ℕ → Bool

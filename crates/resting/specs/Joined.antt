@@ -6,7 +6,7 @@ use lib.Dec.{leb}
 use lib.IntN.{ℤ}
 use Rattle.primitive.specs.Words.{FLAGS, KIND, GONE, DEPS, SUBS, READS, node}
 use Rattle.lists.specs.Each.{both, every}
-use Rattle.counts.specs.Counts.{countedIn}
+use Rattle.counting.specs.Counts.{countedIn}
 use Rattle.resting.specs.Linked.{linkedIn}
 use Rattle.resting.specs.Depends.{dependsAt, ownedAt}
 use Rattle.resting.specs.Named.{readsFrom, namedIn}

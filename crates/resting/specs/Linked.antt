@@ -9,7 +9,7 @@ use Rattle.lists.specs.Each.{both}
 use Rattle.lists.specs.Walk.{run, runs, leaves, onLeft}
 use Rattle.lists.specs.declared.Rest.{Rest}
 use Rattle.resting.specs.declared.linked.Side.{Side}
-use Rattle.counts.specs.Counts.{countedIn, slotRoom}
+use Rattle.counting.specs.Counts.{countedIn, slotRoom}
 
 -- a node's two lists, by their fields
 abbrev pub subscribers : Side

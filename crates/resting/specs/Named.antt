@@ -6,12 +6,12 @@ use lib.Dec.{eqb}
 use lib.IntN.{ℤ}
 use lib.ListN.{getD}
 use Rattle.primitive.specs.Words.{KIND, START, CELLS, DEPS, DEP, NEXT-DEP, node, link}
-use Rattle.formula.specs.Legal.{readableIn}
-use Rattle.formula.specs.Names.{named}
+use Rattle.trees.specs.Legal.{readableIn}
+use Rattle.trees.specs.Names.{named}
 use Rattle.lists.specs.Sum.{bit}
 use Rattle.lists.specs.Each.{pick, along, tally}
 use Rattle.lists.specs.Once.{stamp}
-use Rattle.counts.specs.Counts.{countedIn, slotRoom}
+use Rattle.counting.specs.Counts.{countedIn, slotRoom}
 use Rattle.resting.specs.Blank.{blank}
 use Rattle.resting.specs.Depends.{readsKind}
 

@@ -11,7 +11,7 @@ use Rattle.lists.specs.Walk.{leaves}
 use Rattle.lists.specs.Each.{both, pick}
 use Rattle.lists.specs.Once.{scan}
 use Rattle.lists.specs.declared.Rest.{Rest}
-use Rattle.counts.specs.Counts.{countedIn}
+use Rattle.counting.specs.Counts.{countedIn}
 use Rattle.resting.specs.Blank.{blank}
 
 -- a batch may nest this deep

@@ -7,7 +7,7 @@ use native.Mathlib.Omega.{arith}
 use lib.IntN.{ℤ}
 use lib.ListN.{length, take}
 use borrow.Author.Tests.{le-ltb, lt-ltb}
-use Rattle.operations.specs.Emptying.{Emptied, emptying}
+use Rattle.operating.specs.Emptying.{Emptied, emptying}
 use Rattle.packs.specs.Packs.{decided}
 use Rattle.packs.specs.declared.Act.{Act}
 use Rattle.packs.specs.declared.Act.the-variants.{Turn, Script}

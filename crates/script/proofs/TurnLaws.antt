@@ -7,8 +7,8 @@ use native.Mathlib.Omega.{arith}
 use lib.IntN.{ℤ}
 use lib.ListN.{length, take, drop, length-append}
 use lib.Seq.{take-append-seam}
-use Rattle.engine.specs.Command.{commandIn}
-use Rattle.engine.specs.Command.{Answered as Answer}
+use Rattle.commanding.specs.Command.{commandIn}
+use Rattle.commanding.specs.Command.{Answered as Answer}
 use Rattle.spelling.specs.declared.lines.Found.{Found}
 use Rattle.spelling.specs.declared.lines.Found.the-variants.{Short, Unreadable, Pair}
 use Rattle.spelling.specs.Buffers.{Buffer, buffer, put}

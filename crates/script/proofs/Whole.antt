@@ -19,8 +19,8 @@ use Rattle.spelling.proofs.Streams.{followed, reading-same, short-few}
 use Rattle.spelling.proofs.OutputLaws.{pair-behind, output-none, output-pair, output-unreadable, output-cut}
 use Rattle.spelling.proofs.Room.{held-all}
 use Rattle.script.specs.declared.turns.Turn.the-variants.{More, Answered, Ended}
-use Rattle.engine.specs.Command.{commandIn}
-use Rattle.engine.proofs.LentLog.{log-long}
+use Rattle.commanding.specs.Command.{commandIn}
+use Rattle.commanding.proofs.LentLog.{log-long}
 use Rattle.script.specs.Turns.{Tables, stepped, waiting, turnOn, turnIn}
 
 -- the bytes of an answer that fits are the front of out

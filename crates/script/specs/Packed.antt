@@ -5,7 +5,7 @@ use mathlib.Core.List.{List}
 use lib.Dec.{ltb}
 use lib.IntN.{ℤ}
 use lib.ListN.{length, take}
-use Rattle.operations.specs.Emptying.{Emptied, emptying}
+use Rattle.operating.specs.Emptying.{Emptied, emptying}
 use Rattle.packs.specs.Packs.{decided}
 use Rattle.packs.specs.declared.Act.{Act}
 use Rattle.packs.specs.declared.Act.the-variants as act

@@ -4,7 +4,7 @@ use mathlib.Core.Bool.{Bool, true, false}
 use mathlib.Core.List.{List, [], _++_}
 use lib.IntN.{ℤ}
 use lib.ListN.{length, drop}
-use Rattle.engine.specs.Command.{Answered, commandIn}
+use Rattle.commanding.specs.Command.{Answered, commandIn}
 use Rattle.spelling.specs.Buffers.{buffer, put}
 use Rattle.spelling.specs.Lines.{Reading, short, unreadable, pair, reading}
 use Rattle.spelling.specs.Pairs.{held}

@@ -3,12 +3,12 @@ pub mod list;
 pub mod steps;
 
 use crate::steps::ANSWER;
-use crate::steps::Step;
-use crate::steps::Why;
 use crate::steps::one;
 use engine::tables::well_formed;
+use sequencing::steps::Step;
+use sequencing::steps::Why;
 ghost use mathlib.Core.Path.{_≡_};
-ghost use Rattle.series.specs.Series.{going, ended, seriesIn};
+ghost use Rattle.sequencing.specs.Series.{going, ended, seriesIn};
 
 // Words of a row of the log.
 const ROW: usize = 2;

@@ -1,19 +1,10 @@
 // The list of commands: for each the number of its words, then these.
-use formula::cells::Number;
 use formula::cells::natural;
 use primitive::words::signed_at;
+use sequencing::list::Next;
+use trees::cells::Number;
 ghost use mathlib.Core.Path.{_≡_};
-ghost use Rattle.series.specs.Lists.{nextIn};
-
-// What a list begins with.
-pub enum Next {
-    // nothing: it is over
-    Over,
-    // a word that is no number of words: it is below 0, or more than are left
-    Bad,
-    // a command of so many words, behind the word that says how many
-    Words(usize),
-}
+ghost use Rattle.sequencing.specs.Lists.{nextIn};
 
 pub fn head(list: &[i64]) -> Next
     ensures { λ r. ⌜ r ≡ nextIn (now (list .entry)) ⌝ }

@@ -1,37 +1,19 @@
 // One step of a series: the first command of a list.
-use crate::list::Next;
 use crate::list::head;
 use engine::command::command_on;
 use operations::log::number_word;
+use sequencing::list::Next;
+use sequencing::steps::Step;
+use sequencing::steps::Why;
 ghost use mathlib.Core.Path.{_≡_};
-ghost use Rattle.engine.specs.Command.{commandOn};
-ghost use Rattle.series.specs.Steps.{written, stepped, stepBy};
+ghost use Rattle.commanding.specs.Command.{commandOn};
+ghost use Rattle.sequencing.specs.Steps.{written, stepped, stepBy};
 
 // Words of an answer: code, value, number of runs.
 pub const ANSWER: usize = 3;
 
 // The refusal of a command that wants more rows of the log.
 const SHORT_LOG: u64 = 9;
-
-// Why a series stops.
-pub enum Why {
-    // the list is over
-    Over,
-    // its next word is no number of words
-    List,
-    // no room for the next answer
-    Answers,
-    // the next command wants more rows than are left; nothing else stands against it
-    Rows,
-}
-
-// What a step comes to.
-pub enum Step {
-    // nothing was done
-    Stopped(Why),
-    // Done(words, runs): the command was answered, refusals too; so many words of the list, so many rows
-    Done(usize, usize),
-}
 
 // An answer at the front of those that are left.
 fn put_answer(answers: &mut [i64], code: u64, value: i64, runs: u64)

@@ -9,10 +9,10 @@ use lib.Dec.{ltb}
 use lib.IntN.{ℤ}
 use borrow.Author.Tests.{lt-ltb, le-ltb}
 use Rattle.primitive.specs.declared.flags.Named.{Named}
-use Rattle.marks.specs.Fields.{flagsOf, pending, hasOnly, without}
-use Rattle.reads.specs.Tables.{State, Told, told}
+use Rattle.marking.specs.Fields.{flagsOf, pending, hasOnly, without}
+use Rattle.reading.specs.Tables.{State, Told, told}
 use Rattle.primitive.specs.Words.{DEPS, linkRows, node}
-use Rattle.reads.specs.Ring.{Ring, updatedBy, settledBy, pendingBy, dependencyBy, depsBy}
+use Rattle.reading.specs.Ring.{Ring, updatedBy, settledBy, pendingBy, dependencyBy, depsBy}
 use Rattle.meaning.specs.State.{St, Kind, signal, computed, effect, scope, readable, deps, f1, f17, f33}
 use Rattle.meaning.specs.Links.{several}
 use Rattle.meaning.specs.Marks.{shallow}

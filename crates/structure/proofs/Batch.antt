@@ -11,10 +11,10 @@ use lib.Seq.{getD-set-same, getD-set-other}
 use borrow.Author.Tests.{eq-eqb, ne-eqb, lt-ltb}
 use Rattle.primitive.specs.Words.{COUNT, USED, DEPTH, QUEUE, FLAGS, KIND, GONE, START, CELLS, READS, OWNER, LEVEL, DEPS, DEPS-TAIL, SUBS, SUBS-TAIL, NEXT-DEP, NEXT-SUB, node}
 use Rattle.primitive.proofs.RowLaws.{field-after-header}
-use Rattle.links.specs.Table.{Tab, tab}
-use Rattle.reads.specs.Tables.{State, state}
-use Rattle.operations.specs.Log.{Ran, ranTo}
-use Rattle.operations.specs.Batches.{mostDepth, depthOf, started, flushedAt, endedBatch}
+use Rattle.linking.specs.Table.{Tab, tab}
+use Rattle.reading.specs.Tables.{State, state}
+use Rattle.operating.specs.Log.{Ran, ranTo}
+use Rattle.operating.specs.Batches.{mostDepth, depthOf, started, flushedAt, endedBatch}
 use Rattle.meaning.specs.State.{St, deps}
 use Rattle.meaning.specs.Setters.{withDepth}
 use Rattle.meaning.specs.Links.{stop}

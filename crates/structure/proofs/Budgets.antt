@@ -9,18 +9,18 @@ use lib.ListN.{length, replicate}
 use Rattle.primitive.specs.declared.flags.Named.{Named}
 use Rattle.primitive.specs.Queue.{count, reversedFrom}
 use Rattle.primitive.specs.Words.{SUB, DEPS, node, link, linkRows, nodeRows}
-use Rattle.links.specs.Free.{slots}
-use Rattle.links.specs.Ring.{purgedBy, disposedBy, unlinkedN}
-use Rattle.links.specs.Table.{Tab}
-use Rattle.marks.specs.Fields.{nextSub}
-use Rattle.marks.specs.Notify.{climbed}
-use Rattle.marks.specs.Shallow.{shallowFrom}
-use Rattle.marks.specs.Walks.{place, walked}
-use Rattle.formula.specs.Legal.{mostNesting}
-use Rattle.reads.specs.Ring.{startOf, depsBy, evaluatedBy, refreshedBy, ringN}
-use Rattle.reads.specs.Tables.{State, rankOf}
-use Rattle.operations.specs.Log.{ranTo}
-use Rattle.operations.specs.Runs.{flushedFrom, cleared}
+use Rattle.linking.specs.Free.{slots}
+use Rattle.linking.specs.Ring.{purgedBy, disposedBy, unlinkedN}
+use Rattle.linking.specs.Table.{Tab}
+use Rattle.marking.specs.Fields.{nextSub}
+use Rattle.marking.specs.Notify.{climbed}
+use Rattle.marking.specs.Shallow.{shallowFrom}
+use Rattle.marking.specs.Walks.{place, walked}
+use Rattle.trees.specs.Legal.{mostNesting}
+use Rattle.reading.specs.Ring.{startOf, depsBy, evaluatedBy, refreshedBy, ringN}
+use Rattle.reading.specs.Tables.{State, rankOf}
+use Rattle.operating.specs.Log.{ranTo}
+use Rattle.operating.specs.Runs.{flushedFrom, cleared}
 use Rattle.meaning.specs.State.{St, readable, unclean, deps}
 use Rattle.meaning.specs.Engine.{flush}
 use Rattle.meaning.specs.Links.{purge, dispose}

@@ -8,7 +8,7 @@ use native.Mathlib.Omega.{arith}
 use lib.ListN.{length}
 use Rattle.primitive.specs.Words.{NEXT-DEP, link}
 use Rattle.lists.specs.Walk.{slots}
-use Rattle.counts.specs.Counts.{slotRoom}
+use Rattle.counting.specs.Counts.{slotRoom}
 use Rattle.resting.specs.Linked.{isLive}
 use Rattle.resting.specs.AtRest.{Listed, FreeList}
 use Rattle.meaning.specs.WellFormed.{In}

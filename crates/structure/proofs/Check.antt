@@ -9,10 +9,10 @@ use lib.Dec.{ltb}
 use lib.IntN.{ℤ}
 use lib.ListN.{length}
 use Rattle.primitive.specs.Words.{DEPS, NEXT-DEP, link, linkRows, node}
-use Rattle.links.specs.Table.{tab}
-use Rattle.marks.specs.Fields.{flagsOf, dirty, has}
-use Rattle.reads.specs.Tables.{State, Told, told, rankOf}
-use Rattle.reads.specs.Ring.{Ring, dependencyBy, dirtyBy, onward, depsBy}
+use Rattle.linking.specs.Table.{tab}
+use Rattle.marking.specs.Fields.{flagsOf, dirty, has}
+use Rattle.reading.specs.Tables.{State, Told, told, rankOf}
+use Rattle.reading.specs.Ring.{Ring, dependencyBy, dirtyBy, onward, depsBy}
 use Rattle.meaning.specs.State.{St, deps}
 use Rattle.meaning.specs.Links.{isNil, several}
 use Rattle.meaning.specs.Marks.{shallow}

@@ -7,12 +7,12 @@ use Prim.Native.Nat.{ℕ, zero, suc, _*_, _/_, _≤_}
 use native.Mathlib.Omega.{arith}
 use lib.IntN.{ℤ}
 use lib.ListN.{length}
-use Rattle.refusals.specs.Commands.{brief}
-use Rattle.refusals.specs.Asked.{formulaIn}
-use Rattle.operations.specs.Log.{rowWords}
-use Rattle.reads.specs.Tables.{state}
-use Rattle.engine.specs.Perform.{performed}
-use Rattle.engine.specs.Command.{accepted, answer, commandIn}
+use Rattle.refusing.specs.Commands.{brief}
+use Rattle.refusing.specs.Asked.{formulaIn}
+use Rattle.operating.specs.Log.{rowWords}
+use Rattle.reading.specs.Tables.{state}
+use Rattle.commanding.specs.Perform.{performed}
+use Rattle.commanding.specs.Command.{accepted, answer, commandIn}
 use Rattle.meaning.specs.State.{St}
 use Rattle.meaning.specs.Setters.{withLog}
 use Rattle.meaning.specs.Words.{Command, commandOf}

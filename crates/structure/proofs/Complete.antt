@@ -12,19 +12,19 @@ use borrow.Author.Tests.{leb-true}
 use Rattle.primitive.specs.declared.flags.Named.{Named}
 use Rattle.primitive.specs.Queue.{queueOf}
 use Rattle.primitive.specs.Words.{COUNT, USED, FLAGS, KIND, GONE, DEPS, DEPS-TAIL, SUBS, SUBS-TAIL, READS, OWNER, LEVEL, DEP, SUB, PREV-SUB, NEXT-SUB, PREV-DEP, NEXT-DEP, SIGNAL, COMPUTED, EFFECT, SCOPE, FREE, node, link}
-use Rattle.formula.specs.Trees.{names}
-use Rattle.formula.specs.Legal.{readableIn, AllReadable}
+use Rattle.trees.specs.Trees.{names}
+use Rattle.trees.specs.Legal.{readableIn, AllReadable}
 use Rattle.lists.specs.Sum.{All, occ, bit}
 use Rattle.lists.specs.Each.{keep}
-use Rattle.counts.specs.Counts.{countedIn, nodeRoom, slotRoom, cellRoom, reserveIn, total as totalIn, reserveOf as reserveAt}
-use Rattle.counts.specs.Depths.{depthUnder}
-use Rattle.counts.proofs.Capacities.{carries}
+use Rattle.counting.specs.Counts.{countedIn, nodeRoom, slotRoom, cellRoom, reserveIn, total as totalIn, reserveOf as reserveAt}
+use Rattle.counting.specs.Depths.{depthUnder}
+use Rattle.counting.proofs.Capacities.{carries}
 use Rattle.telling.specs.Rules.{AllLower, HasFormula, ScopeRow, NodeRow, a-signal, a-computed, an-effect, a-scope, Described}
 use Rattle.telling.specs.Whole.{usedCells}
 use Rattle.resting.specs.Linked.{isLive as liveIn}
 use Rattle.resting.specs.Named.{namesOf}
 use Rattle.resting.specs.AtRest.{subsOf, depsOf, freeOf, readLinksOf, Listed, Linked, May, Owned, Waits, Queued, Flagged, signal-clean, signal-set, computed-never, computed-clean, computed-bare, computed-pending, computed-dirty, effect-watching, effect-queued, effect-pending, effect-dirty, gone-queued, gone-done, scope-still, Joined}
-use Rattle.links.specs.Free.{isLive}
+use Rattle.linking.specs.Free.{isLive}
 use Rattle.meaning.specs.State.{St, Kind, signal, computed, effect, scope, readable, deps, f0, f1, f2, f17, f32, f33, f48, f49}
 use Rattle.meaning.specs.Played.{byte}
 use Rattle.meaning.specs.Engine.{levelOf}

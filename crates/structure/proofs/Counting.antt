@@ -5,12 +5,12 @@ use mathlib.Core.List.{List}
 use Prim.Native.Nat.{ℕ, _<_}
 use lib.IntN.{ℤ}
 use Rattle.primitive.specs.Words.{KIND, READS, node}
-use Rattle.counts.specs.Counts.{total as totalIn, reserveOf as reserveAt, effectOf as effectAt}
+use Rattle.counting.specs.Counts.{total as totalIn, reserveOf as reserveAt, effectOf as effectAt}
 use Rattle.meaning.specs.State.{St, Kind, signal, computed, effect, scope}
 use Rattle.meaning.specs.Reserve.{reserve, reserveOf}
 use Rattle.meaning.specs.Refusals.{liveEffects}
-use Rattle.refusals.specs.Sight.{kindOf}
-use Rattle.refusals.proofs.Counted.{TellsReads, reserve-same, effect-same, total-same}
+use Rattle.refusing.specs.Sight.{kindOf}
+use Rattle.refusing.proofs.Counted.{TellsReads, reserve-same, effect-same, total-same}
 use Rattle.structure.specs.Rep.{hasForm, Rep}
 
 module _ (N L : List ℕ) (W C : List ℤ) (s : St) (r : Rep N L W C s) where

@@ -9,8 +9,8 @@ use lib.Dec.{eqb}
 use lib.ListN.{length}
 use Rattle.primitive.specs.Rows.{hasField}
 use Rattle.primitive.specs.Words.{PREV-DEP, NEXT-DEP, DEPS, DEPS-TAIL, PREV-SUB, NEXT-SUB, SUBS, SUBS-TAIL, node, link}
-use Rattle.links.specs.Neighbours.{setBeside}
-use Rattle.links.specs.Table.{Tab}
+use Rattle.linking.specs.Neighbours.{setBeside}
+use Rattle.linking.specs.Table.{Tab}
 use Rattle.meaning.specs.WellFormed.{In, Once}
 use Rattle.meaning.proofs.Laws.{in-left, in-right}
 use Rattle.structure.specs.Chains.{firstWord, lastWord, Chain, Back}

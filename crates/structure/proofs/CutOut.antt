@@ -12,11 +12,11 @@ use lib.ListN.{length, getD, set}
 use borrow.Author.Tests.{eqb-true, eqb-false}
 use Rattle.primitive.specs.Words.{FREE, LIVE, VERSION, DEP, SUB, PREV-DEP, NEXT-DEP, DEPS, DEPS-TAIL, PREV-SUB, NEXT-SUB, SUBS, SUBS-TAIL, FLAGS, GONE, node, link, setLink}
 use Rattle.primitive.proofs.RowLaws.{other-record, other-field, field-after-header}
-use Rattle.links.specs.Free.{isLive, released}
-use Rattle.links.specs.Ring.{mended, cutOut}
-use Rattle.links.specs.Table.{Tab, tab}
-use Rattle.links.proofs.FreeLaws.{released-live, released-freed, released-others, last-first, next-free}
-use Rattle.links.proofs.Kept.{untouched-kept}
+use Rattle.linking.specs.Free.{isLive, released}
+use Rattle.linking.specs.Ring.{mended, cutOut}
+use Rattle.linking.specs.Table.{Tab, tab}
+use Rattle.linking.proofs.FreeLaws.{released-live, released-freed, released-others, last-first, next-free}
+use Rattle.linking.proofs.Kept.{untouched-kept}
 use Rattle.resting.specs.Linked.{dependencies, subscribers}
 use Rattle.meaning.specs.State.{St, up, deps}
 use Rattle.meaning.specs.Links.{provided, remove, cut}

@@ -10,7 +10,7 @@ use native.Mathlib.Omega.{arith}
 use borrow.Author.Tests.{not-true, not-false}
 use lib.IntN.{ℤ}
 use lib.ListN.{length}
-use Rattle.counts.specs.Counts.{carryIn}
+use Rattle.counting.specs.Counts.{carryIn}
 use Rattle.meaning.specs.State.{St, empty}
 use Rattle.meaning.specs.Words.{commandOf}
 use Rattle.meaning.specs.Refusals.{sightOf, table, first, refusal}
@@ -19,12 +19,12 @@ use Rattle.meaning.specs.WellFormed.{WellFormed}
 use Rattle.meaning.proofs.Laws.{clash}
 use Rattle.meaning.proofs.Promised.{nothing-stuck}
 use Rattle.meaning.proofs.Refused.{FirstHolds, NoneHolds, first-below, first-exact, first-zero}
-use Rattle.refusals.specs.Sight.{sightIn, roomIn}
-use Rattle.operations.specs.Log.{rowWords}
-use Rattle.operations.specs.Emptying.{emptied, emptying}
-use Rattle.operations.proofs.EmptyLaws.{empty-done, empty-not}
-use Rattle.engine.specs.Tables.{wellFormedIn}
-use Rattle.engine.specs.Command.{Answered, refused, refusalIn, answer, commandIn}
+use Rattle.refusing.specs.Sight.{sightIn, roomIn}
+use Rattle.operating.specs.Log.{rowWords}
+use Rattle.operating.specs.Emptying.{emptied, emptying}
+use Rattle.operating.proofs.EmptyLaws.{empty-done, empty-not}
+use Rattle.commanding.specs.Tables.{wellFormedIn}
+use Rattle.commanding.specs.Command.{Answered, refused, refusalIn, answer, commandIn}
 use Rattle.structure.specs.Rep.{Rep}
 use Rattle.structure.specs.Reading.{stateIn}
 use Rattle.structure.specs.SameAnswer.{SameAnswer}

@@ -9,9 +9,9 @@ use lib.IntN.{ℤ}
 use Rattle.primitive.specs.declared.flags.Named.{Named}
 use Rattle.primitive.specs.Slots.{slotOf}
 use Rattle.primitive.specs.Words.{NEXT-SUB, PREV-SUB, SUBS, node, link}
-use Rattle.links.specs.Free.{isLive, slots}
-use Rattle.links.specs.Ring.{isOnly, isMutable, retired, cutOut, walked, purgedBy, disowned, disposedBy, unwatchedBy, unlinkedBy, unlinkedN, purged, disposed}
-use Rattle.links.specs.Table.{Tab, tab}
+use Rattle.linking.specs.Free.{isLive, slots}
+use Rattle.linking.specs.Ring.{isOnly, isMutable, retired, cutOut, walked, purgedBy, disowned, disposedBy, unwatchedBy, unlinkedBy, unlinkedN, purged, disposed}
+use Rattle.linking.specs.Table.{Tab, tab}
 use Rattle.meaning.specs.State.{St, f0, readable}
 use Rattle.meaning.specs.Setters.{setFl, setGone}
 use Rattle.meaning.specs.Links.{isNil, headOf, remove, each, cut, rewind, purgeW, lastLink, disposeW, unwatchedW, unlinkN, purge, dispose}

@@ -15,17 +15,17 @@ use Rattle.primitive.specs.Rows.{hasField, field}
 use Rattle.primitive.specs.Values.{value, valueAt}
 use Rattle.primitive.specs.Words.{NODE, LINK, COUNT, USED, DEPTH, QUEUE, FREE, CYCLE, FLAGS, KIND, GONE, OWNER, LEVEL, VERSION, DEP, SUB, LIVE, NEXT-DEP, node, link, setLink}
 use Rattle.primitive.proofs.RowLaws.{length-setField, header-kept, field-after-header, same-field, other-field, other-record}
-use Rattle.counts.specs.Counts.{slotRoom, carryIn}
-use Rattle.counts.proofs.Capacities.{carried}
-use Rattle.links.specs.Free.{isLive}
-use Rattle.reads.specs.Tables.{currentOf, pendingOf, cycleOf}
-use Rattle.operations.specs.Emptying.{Emptied, zeroed, blank, freed, emptying}
-use Rattle.operations.proofs.EmptyLaws.{empty-done}
+use Rattle.counting.specs.Counts.{slotRoom, carryIn}
+use Rattle.counting.proofs.Capacities.{carried}
+use Rattle.linking.specs.Free.{isLive}
+use Rattle.reading.specs.Tables.{currentOf, pendingOf, cycleOf}
+use Rattle.operating.specs.Emptying.{Emptied, zeroed, blank, freed, emptying}
+use Rattle.operating.proofs.EmptyLaws.{empty-done}
 use Rattle.meaning.specs.State.{below, empty}
 use Rattle.meaning.specs.WellFormed.{In}
 use Rattle.meaning.proofs.Emptied.{empty-well-formed}
-use Rattle.refusals.specs.Sight.{kindOf, roomIn}
-use Rattle.engine.specs.Tables.{wellFormedIn}
+use Rattle.refusing.specs.Sight.{kindOf, roomIn}
+use Rattle.commanding.specs.Tables.{wellFormedIn}
 use Rattle.structure.specs.Chains.{Chain}
 use Rattle.structure.specs.Rep.{freeAt, Lengths, Rep}
 use Rattle.structure.proofs.ChainLaws.{chain-move}

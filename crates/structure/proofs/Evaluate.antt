@@ -7,13 +7,13 @@ use native.Mathlib.Omega.{arith}
 use lib.IntN.{ℤ}
 use lib.ListN.{length, length-append}
 use Rattle.primitive.specs.Values.{isZero}
-use Rattle.formula.specs.Trees.{Tree, constant, read, two, choose, apply, names, nesting}
-use Rattle.formula.specs.Legal.{mostNesting}
-use Rattle.formula.proofs.Laid.{Laid}
-use Rattle.reads.specs.Tables.{State, Got, Evaluated}
-use Rattle.reads.specs.Ring.{Ring, readBy, evaluatedBy}
-use Rattle.reads.specs.Works.{workedBy}
-use Rattle.reads.proofs.TreeLaws.{evaluated-tree}
+use Rattle.trees.specs.Trees.{Tree, constant, read, two, choose, apply, names, nesting}
+use Rattle.trees.specs.Legal.{mostNesting}
+use Rattle.trees.proofs.Laid.{Laid}
+use Rattle.reading.specs.Tables.{State, Got, Evaluated}
+use Rattle.reading.specs.Ring.{Ring, readBy, evaluatedBy}
+use Rattle.reading.specs.Works.{workedBy}
+use Rattle.reading.proofs.TreeLaws.{evaluated-tree}
 use Rattle.meaning.specs.State.{St}
 use Rattle.meaning.specs.Reads.{Out, evalBy}
 use Rattle.meaning.specs.WellFormed.{In}

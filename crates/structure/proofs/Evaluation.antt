@@ -7,12 +7,12 @@ use native.Mathlib.Omega.{arith}
 use lib.IntN.{ℤ, pos}
 use borrow.Author.Tests.{lt-ltb}
 use Rattle.primitive.specs.Values.{value}
-use Rattle.formula.specs.Trees.{Tree, names}
-use Rattle.formula.specs.Legal.{mostNesting}
-use Rattle.formula.proofs.Laid.{Laid}
-use Rattle.reads.specs.Tables.{State, Got, got, rankOf, currentOf}
-use Rattle.reads.specs.Steps.{linkedTo}
-use Rattle.reads.specs.Ring.{Ring, readBy, evaluatedBy}
+use Rattle.trees.specs.Trees.{Tree, names}
+use Rattle.trees.specs.Legal.{mostNesting}
+use Rattle.trees.proofs.Laid.{Laid}
+use Rattle.reading.specs.Tables.{State, Got, got, rankOf, currentOf}
+use Rattle.reading.specs.Steps.{linkedTo}
+use Rattle.reading.specs.Ring.{Ring, readBy, evaluatedBy}
 use Rattle.meaning.specs.State.{St, readable}
 use Rattle.meaning.specs.Links.{lastOf, headOf, goesTo, isFrom, renew, insert, link as linkOf}
 use Rattle.meaning.specs.Reads.{Ans, evalBy, settleW, readW, evaluateW}

@@ -9,8 +9,8 @@ use lib.Dec.{leb}
 use lib.IntN.{ℤ}
 use lib.ListN.{length}
 use borrow.Author.Tests.{leb-true}
-use Rattle.counts.specs.Counts.{countedIn, mostNodes, reserveIn, liveEffectsIn, total as totalIn, reserveOf as reserveAt, effectOf as effectAt}
-use Rattle.counts.proofs.Capacities.{carried}
+use Rattle.counting.specs.Counts.{countedIn, mostNodes, reserveIn, liveEffectsIn, total as totalIn, reserveOf as reserveAt, effectOf as effectAt}
+use Rattle.counting.proofs.Capacities.{carried}
 use Rattle.telling.specs.Rules.{Described}
 use Rattle.telling.specs.Whole.{describedIn}
 use Rattle.telling.proofs.Exact.{described-sound, described-complete}
@@ -21,10 +21,10 @@ use Rattle.meaning.specs.State.{within, St}
 use Rattle.meaning.specs.Reserve.{reserve}
 use Rattle.meaning.specs.Refusals.{Sight, liveEffects, sightOf, refusal}
 use Rattle.meaning.specs.WellFormed.{WellFormed}
-use Rattle.refusals.specs.Sight.{sightIn}
-use Rattle.operations.specs.Log.{rowWords}
-use Rattle.engine.specs.Tables.{wellFormedIn}
-use Rattle.engine.specs.Command.{refusalIn}
+use Rattle.refusing.specs.Sight.{sightIn}
+use Rattle.operating.specs.Log.{rowWords}
+use Rattle.commanding.specs.Tables.{wellFormedIn}
+use Rattle.commanding.specs.Command.{refusalIn}
 use Rattle.structure.specs.Rep.{Rep}
 use Rattle.structure.specs.Reading.{stateIn}
 use Rattle.structure.proofs.Stated.{plain-rep, plain-well-formed, nodes-is, slots-is, cells-is, read-is}

@@ -8,7 +8,7 @@ use borrow.Author.Tests.{eqb-true, ltb-true}
 use Rattle.primitive.specs.declared.flags.Named.{Named}
 use Rattle.primitive.specs.Flags.{bit, named}
 use Rattle.primitive.proofs.FlagLaws.{names-all}
-use Rattle.marks.specs.Fields.{mutable, watching, recursedCheck, dirty, pending, busy, changed, has, lacks, hasOnly, without}
+use Rattle.marking.specs.Fields.{mutable, watching, recursedCheck, dirty, pending, busy, changed, has, lacks, hasOnly, without}
 use Rattle.meaning.specs.State.{bare, unclean, recursing, withPending, withDirty, withWatching}
 use Rattle.meaning.specs.Played.{byte}
 use Rattle.meaning.proofs.Laws.{false≢true}

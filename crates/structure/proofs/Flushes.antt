@@ -15,11 +15,11 @@ use Rattle.primitive.specs.Rows.{field}
 use Rattle.primitive.specs.Words.{QUEUE, nodeRows}
 use Rattle.primitive.proofs.RowLaws.{field-after-header}
 use Rattle.primitive.proofs.QueueLaws.{getD-queue, queue-emptied}
-use Rattle.links.specs.Table.{tab}
-use Rattle.reads.specs.Tables.{State, state}
-use Rattle.operations.specs.Log.{Ran, ranTo, rowed}
-use Rattle.operations.proofs.RunLaws.{count-low}
-use Rattle.operations.specs.Runs.{ran, ranNext, flushedFrom, cleared, flushed}
+use Rattle.linking.specs.Table.{tab}
+use Rattle.reading.specs.Tables.{State, state}
+use Rattle.operating.specs.Log.{Ran, ranTo, rowed}
+use Rattle.operating.proofs.RunLaws.{count-low}
+use Rattle.operating.specs.Runs.{ran, ranNext, flushedFrom, cleared, flushed}
 use Rattle.meaning.specs.State.{St, Row, within}
 use Rattle.meaning.specs.Setters.{withQueue}
 use Rattle.meaning.specs.Engine.{run, flushOn, flush}

@@ -12,13 +12,13 @@ use Rattle.primitive.specs.declared.flags.Named.{Named}
 use Rattle.primitive.specs.Flags.{named}
 use Rattle.primitive.specs.Queue.{count as counted, entryAt, entries, queueOf}
 use Rattle.primitive.specs.Words.{COUNT, USED, DEPTH, QUEUE, FLAGS, KIND, GONE, START, CELLS, READS, OWNER, LEVEL, node}
-use Rattle.formula.specs.Trees.{Tree}
+use Rattle.trees.specs.Trees.{Tree}
 use Rattle.telling.specs.Formulas.{ownCells}
 use Rattle.telling.specs.Whole.{usedCells}
-use Rattle.reads.specs.Tables.{cycleOf}
-use Rattle.links.specs.Table.{Tab}
-use Rattle.links.proofs.Untouched.{Untouched}
-use Rattle.refusals.specs.Sight.{kindOf}
+use Rattle.reading.specs.Tables.{cycleOf}
+use Rattle.linking.specs.Table.{Tab}
+use Rattle.linking.proofs.Untouched.{Untouched}
+use Rattle.refusing.specs.Sight.{kindOf}
 use Rattle.meaning.specs.State.{St, Kind, Room, deps}
 use Rattle.meaning.specs.WellFormed.{Lists}
 use Rattle.meaning.proofs.Still.{Given}

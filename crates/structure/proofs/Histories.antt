@@ -5,10 +5,10 @@ use mathlib.Core.List.{List, [], _∷_}
 use Prim.Native.Nat.{ℕ, _/_}
 use lib.IntN.{ℤ}
 use lib.ListN.{length}
-use Rattle.counts.specs.Counts.{carryIn}
-use Rattle.operations.specs.Log.{rowWords}
-use Rattle.operations.specs.Emptying.{emptying}
-use Rattle.refusals.specs.Sight.{roomIn}
+use Rattle.counting.specs.Counts.{carryIn}
+use Rattle.operating.specs.Log.{rowWords}
+use Rattle.operating.specs.Emptying.{emptying}
+use Rattle.refusing.specs.Sight.{roomIn}
 use Rattle.meaning.specs.State.{St, empty}
 use Rattle.meaning.proofs.Emptied.{empty-well-formed}
 use Rattle.meaning.proofs.Accepted.{command-kept}

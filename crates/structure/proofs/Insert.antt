@@ -13,11 +13,11 @@ use Rattle.primitive.specs.Rows.{hasField}
 use Rattle.primitive.specs.Slots.{slotOf}
 use Rattle.primitive.specs.Words.{FREE, LIVE, VERSION, DEP, SUB, PREV-DEP, NEXT-DEP, DEPS, DEPS-TAIL, PREV-SUB, NEXT-SUB, SUBS, SUBS-TAIL, FLAGS, GONE, node, link, setNode, setLink}
 use Rattle.primitive.proofs.RowLaws.{other-record, other-field, field-after-header, header-kept, length-setField}
-use Rattle.links.specs.Free.{isLive, Fresh, fresh, takenOn, taken}
-use Rattle.links.specs.Link.{written, madeOn, made, insertedOn, setBack, joined, inserted, initOf}
-use Rattle.links.specs.Neighbours.{nextDep, setBeside}
-use Rattle.links.specs.Table.{Tab, tab}
-use Rattle.links.proofs.Untouched.{Untouched, then, by-node, by-links, by-beside}
+use Rattle.linking.specs.Free.{isLive, Fresh, fresh, takenOn, taken}
+use Rattle.linking.specs.Link.{written, madeOn, made, insertedOn, setBack, joined, inserted, initOf}
+use Rattle.linking.specs.Neighbours.{nextDep, setBeside}
+use Rattle.linking.specs.Table.{Tab, tab}
+use Rattle.linking.proofs.Untouched.{Untouched, then, by-node, by-links, by-beside}
 use Rattle.meaning.specs.State.{St, up, deps}
 use Rattle.meaning.specs.Links.{insert}
 use Rattle.meaning.specs.WellFormed.{In, Once}

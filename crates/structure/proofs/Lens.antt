@@ -9,8 +9,8 @@ use lib.ListN.{length, getD}
 use Rattle.primitive.specs.Rows.{hasField}
 use Rattle.primitive.specs.Words.{node, link, setNode, setLink}
 use Rattle.primitive.proofs.RowLaws.{has-below, same-field, other-record, other-field, length-setField, header-kept}
-use Rattle.links.specs.Neighbours.{setBeside}
-use Rattle.links.specs.Table.{Tab}
+use Rattle.linking.specs.Neighbours.{setBeside}
+use Rattle.linking.specs.Table.{Tab}
 use Rattle.structure.specs.Rep.{wordAt}
 
 -- the words of a list of node n, by field f of its slots and field g of the node

@@ -13,11 +13,11 @@ use Rattle.primitive.specs.Rows.{hasField}
 use Rattle.primitive.specs.Slots.{slotOf}
 use Rattle.primitive.specs.Words.{VERSION, DEP, SUB, PREV-DEP, NEXT-DEP, DEPS, DEPS-TAIL, PREV-SUB, NEXT-SUB, SUBS, SUBS-TAIL, LIVE, FREE, FLAGS, GONE, node, link, setNode, setLink}
 use Rattle.primitive.proofs.RowLaws.{other-record, other-field, header-kept}
-use Rattle.links.specs.Free.{isLive}
-use Rattle.links.specs.Link.{names, newestOn, newest, reused, initOf, linked}
-use Rattle.links.specs.Neighbours.{nextDep}
-use Rattle.links.specs.Table.{Tab, tab}
-use Rattle.links.proofs.Untouched.{Untouched, then, by-node, by-link}
+use Rattle.linking.specs.Free.{isLive}
+use Rattle.linking.specs.Link.{names, newestOn, newest, reused, initOf, linked}
+use Rattle.linking.specs.Neighbours.{nextDep}
+use Rattle.linking.specs.Table.{Tab, tab}
+use Rattle.linking.proofs.Untouched.{Untouched, then, by-node, by-link}
 use Rattle.meaning.specs.State.{St, up, deps}
 use Rattle.meaning.specs.Links.{headOf, lastOf, goesTo, isFrom, renew, link as linkOf}
 use Rattle.meaning.specs.WellFormed.{In}

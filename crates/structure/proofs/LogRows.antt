@@ -9,8 +9,8 @@ use lib.ListN.{length, take, drop, length-append, length-drop, take-append-drop}
 use lib.Seq.{take-at, drop-at, drop-drop}
 use borrow.Author.Tests.{le-leb}
 use Rattle.primitive.specs.declared.values.Value.{Value}
-use Rattle.reads.specs.Tables.{State}
-use Rattle.operations.specs.Log.{Ran, ranTo, numberWord, rowed, rowsIn}
+use Rattle.reading.specs.Tables.{State}
+use Rattle.operating.specs.Log.{Ran, ranTo, numberWord, rowed, rowsIn}
 use Rattle.meaning.specs.State.{St, Row}
 use Rattle.structure.specs.Logged.{wordsOf, Logged}
 use Rattle.structure.proofs.Steps.{Sees}

@@ -7,10 +7,10 @@ use native.Mathlib.Omega.{arith}
 use lib.IntN.{ℤ}
 use lib.ListN.{getD}
 use Rattle.primitive.specs.Words.{COUNT, DEPS, SUBS, NEXT-SUB, NEXT-DEP, PREV-SUB, PREV-DEP, node, link}
-use Rattle.reads.specs.Tables.{cycleOf}
+use Rattle.reading.specs.Tables.{cycleOf}
 use Rattle.meaning.specs.State.{St, deps}
 use Rattle.meaning.specs.WellFormed.{In, WellFormed}
-use Rattle.engine.specs.Tables.{wellFormedIn}
+use Rattle.commanding.specs.Tables.{wellFormedIn}
 use Rattle.structure.specs.Rep.{hasForm, wordAt, freeAt, Rep}
 use Rattle.structure.specs.Reading.{stateIn}
 use Rattle.structure.specs.Alike.{SameLengths, SameNode, SameFormula, SameSlot, Alike}

@@ -11,15 +11,15 @@ use Rattle.primitive.specs.declared.values.Value.{Value}
 use Rattle.primitive.specs.Slots.{slotOf}
 use Rattle.primitive.specs.Values.{value}
 use Rattle.primitive.specs.Words.{SIGNAL, COMPUTED, EFFECT, SCOPE, LEVEL, node as word}
-use Rattle.formula.specs.Trees.{Tree, constant, written, names}
-use Rattle.formula.specs.Names.{tallest, tallestIn, heightIn, mostHeight}
-use Rattle.formula.proofs.Ends.{all-named}
-use Rattle.counts.specs.Depths.{depthUnder}
-use Rattle.links.specs.Table.{tab}
-use Rattle.reads.specs.Tables.{State}
-use Rattle.making.specs.declared.Sort.{Sort}
-use Rattle.making.specs.Making.{Made, made, make, ownedBy, owned, sort, bits, ownedSort, newSignal, newComputed, newScope}
-use Rattle.operations.specs.Runs.{running}
+use Rattle.trees.specs.Trees.{Tree, constant, written, names}
+use Rattle.trees.specs.Names.{tallest, tallestIn, heightIn, mostHeight}
+use Rattle.trees.proofs.Ends.{all-named}
+use Rattle.counting.specs.Depths.{depthUnder}
+use Rattle.linking.specs.Table.{tab}
+use Rattle.reading.specs.Tables.{State}
+use Rattle.operating.specs.declared.making.Sort.{Sort}
+use Rattle.operating.specs.Making.{Made, made, make, ownedBy, owned, sort, bits, ownedSort, newSignal, newComputed, newScope}
+use Rattle.operating.specs.Runs.{running}
 use Rattle.meaning.specs.State.{St, Kind, signal, computed, effect, scope, readable, f0, f1, f6, nothing}
 use Rattle.meaning.specs.Engine.{tallest as tallestOf, heightOf, depthUnder as depthUnderOf, node, owned as ownedL, newSignal as signalL, newComputed as computedL, newScope as scopeL}
 use Rattle.meaning.specs.WellFormed.{WellFormed}

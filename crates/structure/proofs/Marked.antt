@@ -12,8 +12,8 @@ use Rattle.primitive.specs.Flags.{named}
 use Rattle.primitive.specs.Rows.{hasField, field}
 use Rattle.primitive.specs.Words.{COUNT, USED, DEPTH, QUEUE, FLAGS, KIND, GONE, START, CELLS, READS, OWNER, LEVEL, DEPS, DEPS-TAIL, SUBS, SUBS-TAIL, NEXT-DEP, NEXT-SUB, node}
 use Rattle.primitive.proofs.RowLaws.{other-record, other-field, length-setField, header-kept}
-use Rattle.links.specs.Table.{Tab, tab}
-use Rattle.marks.specs.Fields.{flagsOf, setFlags, nextSub}
+use Rattle.linking.specs.Table.{Tab, tab}
+use Rattle.marking.specs.Fields.{flagsOf, setFlags, nextSub}
 use Rattle.meaning.specs.State.{St, up, deps}
 use Rattle.meaning.specs.Setters.{withFl, withQueue, withStuck}
 use Rattle.meaning.specs.Played.{byte}

@@ -10,12 +10,12 @@ use lib.ListN.{length}
 use Rattle.primitive.specs.declared.values.Value.{Value}
 use Rattle.primitive.specs.Values.{value}
 use Rattle.primitive.specs.Words.{EFFECT}
-use Rattle.formula.specs.Trees.{Tree, written, names}
-use Rattle.reads.specs.Tables.{State, state}
-use Rattle.reads.specs.Read.{evaluatedFor}
-use Rattle.operations.specs.Log.{Ran, ranTo, rowed, rowsIn}
-use Rattle.operations.specs.Runs.{running, endedRun}
-use Rattle.making.specs.Making.{Made, make, ownedSort, newEffect}
+use Rattle.trees.specs.Trees.{Tree, written, names}
+use Rattle.reading.specs.Tables.{State, state}
+use Rattle.reading.specs.Read.{evaluatedFor}
+use Rattle.operating.specs.Log.{Ran, ranTo, rowed, rowsIn}
+use Rattle.operating.specs.Runs.{running, endedRun}
+use Rattle.operating.specs.Making.{Made, make, ownedSort, newEffect}
 use Rattle.meaning.specs.State.{St, effect, Row, f2, f6, nothing}
 use Rattle.meaning.specs.Setters.{setFl}
 use Rattle.meaning.specs.Reads.{evalBy, readW, fresh, evaluate}

@@ -14,15 +14,15 @@ use Rattle.primitive.specs.declared.flags.Named.{Named}
 use Rattle.primitive.specs.declared.values.Value.{Value}
 use Rattle.primitive.specs.Flags.{named}
 use Rattle.primitive.specs.Words.{COUNT, USED, DEPTH, QUEUE, FLAGS, KIND, GONE, DEPS, DEPS-TAIL, SUBS, SUBS-TAIL, START, CELLS, READS, OWNER, LEVEL, NEXT-DEP, PREV-DEP, PREV-SUB, NEXT-SUB, node as word, link, nodeRows}
-use Rattle.formula.specs.Trees.{Tree, constant, written, size}
-use Rattle.formula.specs.Names.{readCells}
-use Rattle.formula.proofs.Written.{length-written}
-use Rattle.formula.proofs.Ends.{read-cells}
+use Rattle.trees.specs.Trees.{Tree, constant, written, size}
+use Rattle.trees.specs.Names.{readCells}
+use Rattle.trees.proofs.Written.{length-written}
+use Rattle.trees.proofs.Ends.{read-cells}
 use Rattle.lists.specs.Sum.{bit}
-use Rattle.refusals.specs.Sight.{kindOf}
-use Rattle.reads.specs.Tables.{State, state, setCurrent}
-use Rattle.making.specs.declared.Sort.{Sort}
-use Rattle.making.specs.Making.{Made, made, described, laid, valued, hasRoom, make}
+use Rattle.refusing.specs.Sight.{kindOf}
+use Rattle.reading.specs.Tables.{State, state, setCurrent}
+use Rattle.operating.specs.declared.making.Sort.{Sort}
+use Rattle.operating.specs.Making.{Made, made, described, laid, valued, hasRoom, make}
 use Rattle.meaning.specs.State.{St, Kind, signal, computed, effect, scope, deps, up}
 use Rattle.meaning.specs.Engine.{levelOf, cellsOf, node}
 use Rattle.meaning.specs.Played.{byte}

@@ -12,11 +12,11 @@ use borrow.Author.Tests.{eqb-true, le-leb}
 use Rattle.primitive.specs.Rows.{hasField}
 use Rattle.primitive.specs.Words.{COUNT, USED, node, setNode, FLAGS, KIND, GONE, DEPS, DEPS-TAIL, SUBS, SUBS-TAIL, START, CELLS, READS, OWNER, LEVEL, QUEUE}
 use Rattle.primitive.proofs.RowLaws.{other-record, other-field, length-setField, header-kept, field-after-header}
-use Rattle.formula.specs.Names.{readCells}
+use Rattle.trees.specs.Names.{readCells}
 use Rattle.telling.specs.Formulas.{ownCells}
 use Rattle.telling.specs.Whole.{usedCells}
-use Rattle.making.specs.declared.Sort.{Sort}
-use Rattle.making.specs.Making.{setAll, described, laid}
+use Rattle.operating.specs.declared.making.Sort.{Sort}
+use Rattle.operating.specs.Making.{setAll, described, laid}
 use Rattle.meaning.proofs.Laws.{branch}
 use Rattle.structure.proofs.WordLaws.{used-cells}
 use Rattle.structure.proofs.Complete.{both}

@@ -18,8 +18,8 @@ use Rattle.primitive.specs.Slots.{slotOf}
 use Rattle.primitive.specs.Words.{QUEUE, FLAGS, SUB, SUBS, node, link, setNode, nodeRows}
 use Rattle.primitive.proofs.RowLaws.{other-field, length-setField, header-kept, field-after-header}
 use Rattle.primitive.proofs.QueueLaws.{pushed-room, queue-pushed, queue-reversed}
-use Rattle.marks.specs.Fields.{flagsOf, setFlags, sub, subs, watching, lacks, without}
-use Rattle.marks.specs.Notify.{queued, ownerOf, climbed, notified}
+use Rattle.marking.specs.Fields.{flagsOf, setFlags, sub, subs, watching, lacks, without}
+use Rattle.marking.specs.Notify.{queued, ownerOf, climbed, notified}
 use Rattle.meaning.specs.State.{St, up, deps, readable, withWatching}
 use Rattle.meaning.specs.Marks.{chain, calm}
 use Rattle.meaning.specs.WellFormed.{In}

@@ -10,16 +10,16 @@ use lib.ListN.{length, drop}
 use borrow.Author.Tests.{leb-false, not-true}
 use Rattle.primitive.specs.declared.values.Value.{Value}
 use Rattle.primitive.specs.Values.{value}
-use Rattle.formula.specs.Trees.{Tree, constant, written, names}
-use Rattle.links.specs.Table.{tab}
-use Rattle.reads.specs.Tables.{State}
-use Rattle.refusals.specs.Commands.{brief, told}
-use Rattle.refusals.specs.Asked.{asked, fromOr, cellsFrom, formulaIn}
-use Rattle.reads.specs.Read.{readOf as readIn}
-use Rattle.refusals.proofs.CommandLaws.{told-is}
-use Rattle.operations.specs.Log.{ranTo, numberWord}
-use Rattle.making.specs.Making.{Made, newScope as newScopeW, newEffect as newEffectW}
-use Rattle.engine.specs.Perform.{Done, done, numbered, performed, ownerWord}
+use Rattle.trees.specs.Trees.{Tree, constant, written, names}
+use Rattle.linking.specs.Table.{tab}
+use Rattle.reading.specs.Tables.{State}
+use Rattle.refusing.specs.Commands.{brief, told}
+use Rattle.refusing.specs.Asked.{asked, fromOr, cellsFrom, formulaIn}
+use Rattle.reading.specs.Read.{readOf as readIn}
+use Rattle.refusing.proofs.CommandLaws.{told-is}
+use Rattle.operating.specs.Log.{ranTo, numberWord}
+use Rattle.operating.specs.Making.{Made, newScope as newScopeW, newEffect as newEffectW}
+use Rattle.commanding.specs.Perform.{Done, done, numbered, performed, ownerWord}
 use Rattle.meaning.specs.State.{St, scope, readable, f0, nothing}
 use Rattle.meaning.specs.Setters.{withLog}
 use Rattle.meaning.specs.Engine.{node, newSignal, newComputed, newScope, newEffect}

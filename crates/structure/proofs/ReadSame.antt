@@ -7,15 +7,15 @@ use mathlib.Core.List.{List, []}
 use Prim.Native.Nat.{ℕ, _<_}
 use lib.IntN.{ℤ}
 use Rattle.primitive.specs.declared.flags.Named.{Named}
-use Rattle.reads.specs.Tables.{State, state}
-use Rattle.reads.specs.Read.{readOf}
+use Rattle.reading.specs.Tables.{State, state}
+use Rattle.reading.specs.Read.{readOf}
 use Rattle.meaning.specs.State.{St, readable}
 use Rattle.meaning.specs.Reads.{settle}
 use Rattle.meaning.specs.WellFormed.{WellFormed}
 use Rattle.meaning.proofs.Still.{Given, given}
 use Rattle.meaning.proofs.Inside.{nobody, Static, static, rest-inside}
 use Rattle.meaning.proofs.Running.{nobody-open, Run, run-above, run-apart}
-use Rattle.engine.specs.Tables.{wellFormedIn}
+use Rattle.commanding.specs.Tables.{wellFormedIn}
 use Rattle.structure.specs.Rep.{hasForm}
 use Rattle.structure.specs.Reading.{stateIn}
 use Rattle.structure.proofs.Exact.{accepted-represents, accepted-well-formed}

@@ -10,11 +10,11 @@ use lib.IntN.{ℤ}
 use Rattle.primitive.specs.declared.flags.Named.{Named}
 use Rattle.primitive.specs.Flags.{bit, named}
 use Rattle.primitive.specs.Words.{SIGNAL, COMPUTED}
-use Rattle.links.specs.Table.{tab}
-use Rattle.marks.specs.Fields.{flagsOf, setFlags, dirty, pending, has, without}
-use Rattle.reads.specs.Tables.{State, state, Told, told}
-use Rattle.reads.specs.Steps.{wokenOthers, updatedSignal, wakenIf, refreshedSignal}
-use Rattle.reads.specs.Ring.{Ring, checkedBy, updatedComputedBy, firstBy, renewedBy, surelyBy, refreshedComputedBy, refreshedBy}
+use Rattle.linking.specs.Table.{tab}
+use Rattle.marking.specs.Fields.{flagsOf, setFlags, dirty, pending, has, without}
+use Rattle.reading.specs.Tables.{State, state, Told, told}
+use Rattle.reading.specs.Steps.{wokenOthers, updatedSignal, wakenIf, refreshedSignal}
+use Rattle.reading.specs.Ring.{Ring, checkedBy, updatedComputedBy, firstBy, renewedBy, surelyBy, refreshedComputedBy, refreshedBy}
 use Rattle.meaning.specs.State.{St, Kind, signal, computed, effect, scope, readable, bare, deps, f1, f17, f33, withPending}
 use Rattle.meaning.specs.Setters.{setFl}
 use Rattle.meaning.specs.Links.{several}

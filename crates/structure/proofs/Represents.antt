@@ -10,9 +10,9 @@ use borrow.Author.Tests.{lt-ltb, le-ltb, le-leb}
 use Rattle.primitive.specs.Flags.{bit as bitAt, named}
 use Rattle.primitive.specs.Queue.{count, queueOf}
 use Rattle.primitive.specs.Words.{COUNT, USED, QUEUE, FLAGS, KIND, GONE, DEPS, DEPS-TAIL, SUBS, SUBS-TAIL, OWNER, DEP, SUB, PREV-SUB, NEXT-SUB, PREV-DEP, NEXT-DEP, FREE, node, link}
-use Rattle.formula.specs.Trees.{Tree, constant}
-use Rattle.counts.specs.Counts.{carryIn, countedIn}
-use Rattle.counts.proofs.Capacities.{carried}
+use Rattle.trees.specs.Trees.{Tree, constant}
+use Rattle.counting.specs.Counts.{carryIn, countedIn}
+use Rattle.counting.proofs.Capacities.{carried}
 use Rattle.telling.specs.Formulas.{ownCells}
 use Rattle.telling.specs.Rules.{HasFormula, NodeRow, a-signal, a-computed, an-effect, a-scope, Described}
 use Rattle.telling.specs.Whole.{usedCells}
@@ -21,7 +21,7 @@ use Rattle.meaning.specs.State.{capacities, signal, computed, effect, scope, de
 use Rattle.meaning.specs.Played.{byte}
 use Rattle.meaning.specs.Words.{formulaOf}
 use Rattle.meaning.proofs.Laws.{false≢true}
-use Rattle.refusals.specs.Sight.{roomIn, kindOf}
+use Rattle.refusing.specs.Sight.{roomIn, kindOf}
 use Rattle.structure.specs.Chains.{Chain, Back, lastWord}
 use Rattle.structure.specs.Rep.{kindWord, hasForm, wordAt, freeAt, Lengths, Kinds, Spelt, Forms, Rep}
 use Rattle.structure.specs.Reading.{ofNode, orConstant, formIn, stateIn}

@@ -15,9 +15,9 @@ use Rattle.primitive.specs.declared.slots.Slot.the-variants.{Nothing}
 use Rattle.primitive.specs.Flags.{bit, named}
 use Rattle.primitive.specs.Slots.{slotOf}
 use Rattle.primitive.specs.Words.{NEXT-DEP, DEPS, DEPS-TAIL, PREV-SUB, NEXT-SUB, SUBS, node, link, setNode}
-use Rattle.links.specs.Free.{isLive}
-use Rattle.links.specs.Ring.{isOnlyOn, isOnly, isMutable, reset, retired, cutOut, nextOf, walked, purgedBy, disowned, disposedBy, droppedBy, unwatchedBy, unlinkedBy, unlinkedN}
-use Rattle.links.specs.Table.{Tab, tab}
+use Rattle.linking.specs.Free.{isLive}
+use Rattle.linking.specs.Ring.{isOnlyOn, isOnly, isMutable, reset, retired, cutOut, nextOf, walked, purgedBy, disowned, disposedBy, droppedBy, unwatchedBy, unlinkedBy, unlinkedN}
+use Rattle.linking.specs.Table.{Tab, tab}
 use Rattle.meaning.specs.State.{St, deps, f0, f17, readable}
 use Rattle.meaning.specs.Setters.{setFl, setGone}
 use Rattle.meaning.specs.Links.{isNil, headOf, remove, each, cut, rewind, purgeW, lastLink, disposeW, unwatchedW, unlinkN}

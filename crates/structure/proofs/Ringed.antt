@@ -4,8 +4,8 @@ use mathlib.Core.Bool.{true, false}
 use mathlib.Core.List.{List, []}
 use Prim.Native.Nat.{ℕ, _<_}
 use lib.IntN.{ℤ}
-use Rattle.reads.specs.Tables.{State}
-use Rattle.reads.specs.Read.{refreshed, checked, evaluatedFor}
+use Rattle.reading.specs.Tables.{State}
+use Rattle.reading.specs.Read.{refreshed, checked, evaluatedFor}
 use Rattle.meaning.specs.State.{St, effect, readable, deps, f6}
 use Rattle.meaning.specs.Reads.{settle, check, evaluate}
 use Rattle.meaning.proofs.Still.{Given}

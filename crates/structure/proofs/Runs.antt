@@ -8,12 +8,12 @@ use native.Mathlib.Omega.{arith}
 use lib.IntN.{ℤ}
 use Rattle.primitive.specs.declared.flags.Named.{Named}
 use Rattle.primitive.specs.Flags.{bit, named}
-use Rattle.links.specs.Table.{tab}
-use Rattle.marks.specs.Fields.{flagsOf, setFlags, watching, recursedCheck, dirty, pending, has, without}
-use Rattle.reads.specs.Tables.{State, state, Told, told}
-use Rattle.reads.specs.Read.{checked, evaluatedFor}
-use Rattle.operations.specs.Log.{Ran, ranTo, rowed, rowsIn}
-use Rattle.operations.specs.Runs.{begunRun, endedRun, finishedRun, reran, mustRun, ran}
+use Rattle.linking.specs.Table.{tab}
+use Rattle.marking.specs.Fields.{flagsOf, setFlags, watching, recursedCheck, dirty, pending, has, without}
+use Rattle.reading.specs.Tables.{State, state, Told, told}
+use Rattle.reading.specs.Read.{checked, evaluatedFor}
+use Rattle.operating.specs.Log.{Ran, ranTo, rowed, rowsIn}
+use Rattle.operating.specs.Runs.{begunRun, endedRun, finishedRun, reran, mustRun, ran}
 use Rattle.meaning.specs.State.{St, effect, Row, readable, f2, f6}
 use Rattle.meaning.specs.Setters.{withQueue, setFl}
 use Rattle.meaning.specs.Links.{purge}

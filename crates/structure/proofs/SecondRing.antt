@@ -5,11 +5,11 @@ use mathlib.Core.List.{List, []}
 use Prim.Native.Nat.{ℕ, zero, suc, _<_, _≤_}
 use native.Mathlib.Omega.{arith}
 use lib.IntN.{ℤ}
-use Rattle.formula.specs.Legal.{mostNesting}
-use Rattle.reads.specs.Tables.{State, rankOf}
+use Rattle.trees.specs.Legal.{mostNesting}
+use Rattle.reading.specs.Tables.{State, rankOf}
 use Rattle.primitive.specs.Words.{DEPS, linkRows, node}
-use Rattle.reads.specs.Ring.{startOf, depsBy, checkedBy, evaluatedBy, refreshedBy, ringN}
-use Rattle.reads.specs.Read.{refreshed, checked, evaluatedFor}
+use Rattle.reading.specs.Ring.{startOf, depsBy, checkedBy, evaluatedBy, refreshedBy, ringN}
+use Rattle.reading.specs.Read.{refreshed, checked, evaluatedFor}
 use Rattle.meaning.specs.State.{St, readable, deps}
 use Rattle.meaning.specs.Reads.{checkW, fresh, settle, check, evaluate}
 use Rattle.meaning.proofs.Still.{Given}

@@ -11,11 +11,11 @@ use lib.ListN.{length}
 use Rattle.primitive.specs.declared.flags.Named.{Named}
 use Rattle.primitive.specs.Slots.{slotOf}
 use Rattle.primitive.specs.Words.{SUB, link, linkRows}
-use Rattle.links.specs.Table.{Tab, tab}
-use Rattle.marks.specs.Fields.{flagsOf, nextSub, watching, recursedCheck, dirty, hasOnly, changed, pending}
-use Rattle.marks.specs.Shallow.{raised, dirtied, further, shallowFrom, shallow as shallowed}
-use Rattle.marks.proofs.Kept.{length-shallow, column-shallow, header-shallow}
-use Rattle.reads.specs.Steps.{wokenOn, woken, othersOn, wokenOthersOn, wokenOthers}
+use Rattle.linking.specs.Table.{Tab, tab}
+use Rattle.marking.specs.Fields.{flagsOf, nextSub, watching, recursedCheck, dirty, hasOnly, changed, pending}
+use Rattle.marking.specs.Shallow.{raised, dirtied, further, shallowFrom, shallow as shallowed}
+use Rattle.marking.proofs.Kept.{length-shallow, column-shallow, header-shallow}
+use Rattle.reading.specs.Steps.{wokenOn, woken, othersOn, wokenOthersOn, wokenOthers}
 use Rattle.meaning.specs.State.{St, up, withDirty}
 use Rattle.meaning.specs.Links.{several}
 use Rattle.meaning.specs.Marks.{soil, shallow}

@@ -12,19 +12,19 @@ use Rattle.primitive.specs.declared.flags.Named.{Named}
 use Rattle.primitive.specs.Flags.{bit as bitAt, named}
 use Rattle.primitive.specs.Queue.{queueOf}
 use Rattle.primitive.specs.Words.{COUNT, FLAGS, KIND, GONE, DEPS, DEPS-TAIL, SUBS, SUBS-TAIL, OWNER, LEVEL, DEP, SUB, PREV-SUB, NEXT-SUB, PREV-DEP, NEXT-DEP, SIGNAL, COMPUTED, EFFECT, SCOPE, FREE, node, link}
-use Rattle.formula.specs.Trees.{Tree, constant, names, size, nesting}
-use Rattle.formula.specs.Legal.{readableIn, AllReadable, mostCells, mostNesting}
+use Rattle.trees.specs.Trees.{Tree, constant, names, size, nesting}
+use Rattle.trees.specs.Legal.{readableIn, AllReadable, mostCells, mostNesting}
 use Rattle.lists.specs.Sum.{occ}
 use Rattle.lists.specs.Each.{keep}
-use Rattle.counts.specs.Counts.{countedIn, slotRoom, reserveIn, total as totalIn, reserveOf as reserveAt}
-use Rattle.counts.proofs.Capacities.{carried}
+use Rattle.counting.specs.Counts.{countedIn, slotRoom, reserveIn, total as totalIn, reserveOf as reserveAt}
+use Rattle.counting.proofs.Capacities.{carried}
 use Rattle.telling.specs.Rules.{AllLower, HasFormula, NodeRow, a-signal, a-computed, an-effect, a-scope, Described}
 use Rattle.telling.specs.Whole.{usedCells}
 use Rattle.resting.specs.Linked.{isLive as liveIn}
 use Rattle.resting.specs.Named.{namesOf}
 use Rattle.resting.specs.AtRest.{subsOf, depsOf, freeOf, readLinksOf, May, Waits, Flagged, signal-clean, signal-set, computed-never, computed-clean, computed-bare, computed-pending, computed-dirty, effect-watching, effect-queued, effect-pending, effect-dirty, gone-queued, gone-done, scope-still, Joined}
 use Rattle.resting.proofs.LinkedExact.{live-low}
-use Rattle.links.specs.Free.{isLive}
+use Rattle.linking.specs.Free.{isLive}
 use Rattle.meaning.specs.State.{St, Kind, signal, computed, effect, scope, readable, deps, f0, f1, f2, f17, f32, f33, f48, f49}
 use Rattle.meaning.specs.Engine.{levelOf, tallest as tallestOf}
 use Rattle.meaning.specs.Reserve.{reserve}
@@ -32,7 +32,7 @@ use Rattle.meaning.specs.Refusals.{mostLevel}
 use Rattle.meaning.specs.WellFormed.{In, Once, readLinks, Lists, Depends, Limits, ComputedFlags, never, clean, stale, maybe, EffectFlags, watching, pushed, pending, FlagsByKind, Queue, WellFormed}
 use Rattle.meaning.proofs.Laws.{either, clash, false≢true}
 use Rattle.meaning.proofs.Members.{none-nil, reads-sub}
-use Rattle.refusals.specs.Sight.{kindOf}
+use Rattle.refusing.specs.Sight.{kindOf}
 use Rattle.structure.specs.Rep.{kindWord, hasForm}
 use Rattle.structure.specs.Reading.{ofNode, ownerIn, stateIn}
 use Rattle.structure.proofs.Occurs.{occ-in, occ-once, all-in}

@@ -9,7 +9,7 @@ use lib.IntN.{ℤ}
 use lib.ListN.{getD}
 use borrow.Author.Tests.{ltb-true, ltb-false, lt-ltb, le-ltb}
 use Rattle.primitive.specs.Words.{COUNT, OWNER, DEPS, SUBS, NEXT-DEP, NEXT-SUB, node, link}
-use Rattle.counts.specs.Counts.{nodeRoom, slotRoom, cellRoom}
+use Rattle.counting.specs.Counts.{nodeRoom, slotRoom, cellRoom}
 use Rattle.telling.specs.Formulas.{ownCells}
 use Rattle.telling.specs.Whole.{usedCells}
 use Rattle.resting.specs.AtRest.{subsOf, depsOf, freeOf}
@@ -20,7 +20,7 @@ use Rattle.meaning.specs.WellFormed.{In, WellFormed}
 use Rattle.meaning.specs.Words.{formulaOf}
 use Rattle.meaning.proofs.Laws.{either}
 use Rattle.meaning.proofs.Members.{none-nil, most-below}
-use Rattle.refusals.specs.Sight.{roomIn}
+use Rattle.refusing.specs.Sight.{roomIn}
 use Rattle.structure.specs.Rep.{hasForm, wordAt, freeAt, RepAfter, Rep}
 use Rattle.structure.specs.Reading.{ofNode, ownerIn, orConstant, formIn, stateIn, plain}
 use Rattle.structure.proofs.ChainLaws.{chain-slots}

@@ -14,12 +14,12 @@ use Rattle.primitive.specs.Flags.{bit, named}
 use Rattle.primitive.specs.Values.{value, valueAt, setValue, same}
 use Rattle.primitive.specs.Words.{CYCLE, FREE, LIVE, VERSION, DEP, SUB, PREV-DEP, NEXT-DEP, DEPS, DEPS-TAIL, PREV-SUB, NEXT-SUB, SUBS, link, setNode}
 use Rattle.primitive.proofs.RowLaws.{field-after-header}
-use Rattle.links.specs.Free.{isLive}
-use Rattle.links.specs.Link.{linked}
-use Rattle.links.specs.Table.{Tab, tab}
-use Rattle.marks.specs.Fields.{flagsOf, setFlags, recursedCheck, without}
-use Rattle.reads.specs.Tables.{State, state, Told, currentOf, pendingOf, setCurrent, setPending, cycleOf, raised}
-use Rattle.reads.specs.Steps.{updatedSignal, begunFirst, begun, finishedFirst, finished, linkedTo}
+use Rattle.linking.specs.Free.{isLive}
+use Rattle.linking.specs.Link.{linked}
+use Rattle.linking.specs.Table.{Tab, tab}
+use Rattle.marking.specs.Fields.{flagsOf, setFlags, recursedCheck, without}
+use Rattle.reading.specs.Tables.{State, state, Told, currentOf, pendingOf, setCurrent, setPending, cycleOf, raised}
+use Rattle.reading.specs.Steps.{updatedSignal, begunFirst, begun, finishedFirst, finished, linkedTo}
 use Rattle.meaning.specs.State.{St, up, deps, f1, f5, raised as raisedTo}
 use Rattle.meaning.specs.Setters.{withCycle, setFl, setSto, setPend}
 use Rattle.meaning.specs.Links.{rewind, purge, lastOf, headOf, goesTo, isFrom, link as linkOf}

@@ -13,9 +13,9 @@ use Rattle.primitive.specs.Rows.{hasField}
 use Rattle.primitive.specs.Words.{PREV-DEP, NEXT-DEP, DEPS, DEPS-TAIL, NEXT-SUB, SUBS, SUBS-TAIL, FLAGS, GONE, KIND, OWNER, LEVEL, node, link, setNode}
 use Rattle.primitive.proofs.RowLaws.{other-record, other-field}
 use Rattle.lists.specs.Sum.{bit}
-use Rattle.links.specs.Table.{Tab, tab}
-use Rattle.links.proofs.Untouched.{Untouched, by-node}
-use Rattle.refusals.specs.Sight.{kindOf}
+use Rattle.linking.specs.Table.{Tab, tab}
+use Rattle.linking.proofs.Untouched.{Untouched, by-node}
+use Rattle.refusing.specs.Sight.{kindOf}
 use Rattle.meaning.specs.State.{St, up, deps}
 use Rattle.meaning.specs.Setters.{withGone, withFl, withDone, withRest, setFl, setGone}
 use Rattle.meaning.specs.Links.{rewind}

@@ -11,11 +11,11 @@ use Rattle.primitive.specs.declared.flags.Named.{Named}
 use Rattle.primitive.specs.declared.values.Value.{Value}
 use Rattle.primitive.specs.Values.{same}
 use Rattle.primitive.specs.Words.{SIGNAL, COMPUTED}
-use Rattle.formula.specs.Legal.{mostNesting}
-use Rattle.formula.proofs.Laid.{Laid}
-use Rattle.reads.specs.Tables.{State, state, Told, told, Evaluated}
-use Rattle.reads.specs.Steps.{updatedSignal, begunFirst, begun, finishedFirst, finished}
-use Rattle.reads.specs.Ring.{Ring, startOf, evaluatedBy, updatedComputedBy, firstBy, updatedBy}
+use Rattle.trees.specs.Legal.{mostNesting}
+use Rattle.trees.proofs.Laid.{Laid}
+use Rattle.reading.specs.Tables.{State, state, Told, told, Evaluated}
+use Rattle.reading.specs.Steps.{updatedSignal, begunFirst, begun, finishedFirst, finished}
+use Rattle.reading.specs.Ring.{Ring, startOf, evaluatedBy, updatedComputedBy, firstBy, updatedBy}
 use Rattle.meaning.specs.State.{St, Kind, signal, computed, effect, scope, readable, f0, f1, f5, up}
 use Rattle.meaning.specs.Setters.{setFl, setSto}
 use Rattle.meaning.specs.Links.{purge}

@@ -16,15 +16,15 @@ use Rattle.primitive.specs.Slots.{slotOf}
 use Rattle.primitive.specs.Stack.{pushed, pushedLen}
 use Rattle.primitive.specs.Words.{SUB, link, linkRows}
 use Rattle.primitive.proofs.StackLaws.{len-room, below-kept}
-use Rattle.links.specs.Table.{Tab, tab}
-use Rattle.marks.specs.Fields.{flagsOf, setFlags, subs, nextSub, mutable, watching, pending, busy, changed, has, lacks}
-use Rattle.marks.specs.Notify.{notified}
-use Rattle.marks.specs.Valid.{validLink}
-use Rattle.marks.specs.Visits.{Visit, visit, after, stored, reached}
-use Rattle.marks.specs.Visits.Visit.{Skip, Mark}
-use Rattle.marks.specs.Walks.{Place, place, Rest, below, down, back, along, onward, turn, walked, propagated}
-use Rattle.marks.proofs.AtRest.{visit-at-rest}
-use Rattle.marks.proofs.Kept.{length-propagated, column-propagated, header-propagated}
+use Rattle.linking.specs.Table.{Tab, tab}
+use Rattle.marking.specs.Fields.{flagsOf, setFlags, subs, nextSub, mutable, watching, pending, busy, changed, has, lacks}
+use Rattle.marking.specs.Notify.{notified}
+use Rattle.marking.specs.Valid.{validLink}
+use Rattle.marking.specs.Visits.{Visit, visit, after, stored, reached}
+use Rattle.marking.specs.Visits.Visit.{Skip, Mark}
+use Rattle.marking.specs.Walks.{Place, place, Rest, below, down, back, along, onward, turn, walked, propagated}
+use Rattle.marking.proofs.AtRest.{visit-at-rest}
+use Rattle.marking.proofs.Kept.{length-propagated, column-propagated, header-propagated}
 use Rattle.meaning.specs.State.{St, Kind, signal, computed, effect, scope, up, readable, unclean, recursing, withPending, f1, f17}
 use Rattle.meaning.specs.Links.{several}
 use Rattle.meaning.specs.Marks.{Marks, marks, marksOf, withMarks, halt, chain, calm, notify, mark, prop, stackFull, turns, propagate}

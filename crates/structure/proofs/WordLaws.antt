@@ -13,15 +13,15 @@ use lib.Seq.{drop-append-le}
 use borrow.Author.Tests.{lt-ltb, le-ltb, ltb-true, le-leb, eq-eqb, ne-eqb, eqb-true, not-true, not-false}
 use Rattle.primitive.specs.Words.{COUNT, USED, QUEUE, KIND, START, CELLS, LEVEL, DEP, node, link}
 use Rattle.primitive.specs.Queue.{count as queueLength, entries, queueOf}
-use Rattle.formula.specs.Trees.{Tree, written, names}
-use Rattle.formula.specs.Legal.{readKind, readableIn}
-use Rattle.formula.specs.Names.{named, tallest}
-use Rattle.formula.proofs.Laid.{Laid, laid}
-use Rattle.formula.proofs.Ends.{named-tree}
+use Rattle.trees.specs.Trees.{Tree, written, names}
+use Rattle.trees.specs.Legal.{readKind, readableIn}
+use Rattle.trees.specs.Names.{named, tallest}
+use Rattle.trees.proofs.Laid.{Laid, laid}
+use Rattle.trees.proofs.Ends.{named-tree}
 use Rattle.lists.specs.Sum.{bit}
 use Rattle.lists.specs.Each.{keep}
-use Rattle.counts.specs.Depths.{depthUnder}
-use Rattle.links.specs.Free.{isLive}
+use Rattle.counting.specs.Depths.{depthUnder}
+use Rattle.linking.specs.Free.{isLive}
 use Rattle.resting.specs.Linked.{isLive as liveIn}
 use Rattle.resting.specs.Depends.{readsKind}
 use Rattle.resting.specs.Named.{namesOf}
@@ -33,8 +33,8 @@ use Rattle.meaning.specs.WellFormed.{In, readLinks}
 use Rattle.meaning.specs.Words.{formulaOf}
 use Rattle.meaning.proofs.Formulas.{WrittenOut, tree-exact}
 use Rattle.meaning.proofs.Laws.{clash, false≢true}
-use Rattle.refusals.specs.Sight.{kindOf}
-use Rattle.refusals.proofs.Formulas.{readable-kind}
+use Rattle.refusing.specs.Sight.{kindOf}
+use Rattle.refusing.proofs.Formulas.{readable-kind}
 use Rattle.structure.specs.Rep.{kindWord, ownerWord, hasForm, Spelt}
 use Rattle.structure.specs.Reading.{ofNode, ownerIn}
 

@@ -11,13 +11,13 @@ use Rattle.primitive.specs.declared.values.Value.{Value}
 use Rattle.primitive.specs.Flags.{bit, named}
 use Rattle.primitive.specs.Slots.{slotOf}
 use Rattle.primitive.specs.Values.{same, sum}
-use Rattle.links.specs.Table.{tab}
-use Rattle.marks.specs.Walks.{propagated}
-use Rattle.reads.specs.Tables.{State, state, pendingOf, setPending}
-use Rattle.operations.specs.Log.{Ran, ranTo}
-use Rattle.operations.specs.Runs.{flushed}
-use Rattle.operations.specs.Batches.{flushedAt}
-use Rattle.operations.specs.Writes.{stored, announced, written, added}
+use Rattle.linking.specs.Table.{tab}
+use Rattle.marking.specs.Walks.{propagated}
+use Rattle.reading.specs.Tables.{State, state, pendingOf, setPending}
+use Rattle.operating.specs.Log.{Ran, ranTo}
+use Rattle.operating.specs.Runs.{flushed}
+use Rattle.operating.specs.Batches.{flushedAt}
+use Rattle.operating.specs.Writes.{stored, announced, written, added}
 use Rattle.meaning.specs.State.{St, signal, readable, aSignal, unclean, f17}
 use Rattle.meaning.specs.Setters.{setFl, setPend}
 use Rattle.meaning.specs.Links.{isNil}

@@ -9,12 +9,12 @@ use lib.IntN.{ℤ}
 use lib.ListN.{length, getD}
 use Rattle.primitive.specs.Queue.{queueOf}
 use Rattle.primitive.specs.Words.{COUNT, USED, DEPTH, QUEUE, CYCLE, FREE, FLAGS, KIND, GONE, DEPS, DEPS-TAIL, SUBS, SUBS-TAIL, CELLS, READS, OWNER, LEVEL, VERSION, DEP, SUB, PREV-SUB, NEXT-SUB, PREV-DEP, NEXT-DEP, node, link}
-use Rattle.links.specs.Free.{isLive}
-use Rattle.reads.specs.Tables.{currentOf, pendingOf}
-use Rattle.counts.specs.Counts.{slotRoom}
+use Rattle.linking.specs.Free.{isLive}
+use Rattle.reading.specs.Tables.{currentOf, pendingOf}
+use Rattle.counting.specs.Counts.{slotRoom}
 use Rattle.telling.specs.Formulas.{ownCells}
 use Rattle.telling.specs.Whole.{usedCells}
-use Rattle.refusals.specs.Sight.{kindOf}
+use Rattle.refusing.specs.Sight.{kindOf}
 use Rattle.structure.specs.Rep.{hasForm}
 
 pub record SameLengths (N L : List ℕ) (W C : List ℤ) (N′ L′ : List ℕ) (W′ C′ : List ℤ) : Type 0 where

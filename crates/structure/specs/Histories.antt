@@ -5,10 +5,10 @@ use mathlib.Core.List.{List, [], _∷_}
 use Prim.Native.Nat.{ℕ, _/_}
 use lib.IntN.{ℤ}
 use lib.ListN.{length}
-use Rattle.operations.specs.Emptying.{Emptied}
-use Rattle.operations.specs.Log.{rowWords}
-use Rattle.engine.specs.Tables.{wellFormedIn}
-use Rattle.engine.specs.Command.{Answered, commandIn}
+use Rattle.operating.specs.Emptying.{Emptied}
+use Rattle.operating.specs.Log.{rowWords}
+use Rattle.commanding.specs.Tables.{wellFormedIn}
+use Rattle.commanding.specs.Command.{Answered, commandIn}
 use Rattle.meaning.specs.State.{St}
 use Rattle.meaning.specs.Commands.{Answer, command}
 use Rattle.meaning.specs.WellFormed.{WellFormed}

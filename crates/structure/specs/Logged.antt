@@ -4,7 +4,7 @@ use mathlib.Core.List.{List, [], _∷_, _++_}
 use Prim.Native.Nat.{ℕ, _*_, _≤_}
 use lib.IntN.{ℤ, pos}
 use lib.ListN.{length, drop}
-use Rattle.operations.specs.Log.{rowWords}
+use Rattle.operating.specs.Log.{rowWords}
 use Rattle.meaning.specs.State.{Row}
 
 -- the words of these rows, in order

@@ -9,17 +9,17 @@ use lib.ListN.{getD}
 use Rattle.primitive.specs.Flags.{named}
 use Rattle.primitive.specs.Queue.{queueOf}
 use Rattle.primitive.specs.Words.{COUNT, USED, DEPTH, KIND, GONE, OWNER, LEVEL, VERSION, DEP, SUB, node, link}
-use Rattle.formula.specs.Trees.{Tree, constant}
-use Rattle.links.specs.Free.{isLive}
-use Rattle.marks.specs.Fields.{flagsOf}
-use Rattle.reads.specs.Tables.{currentOf, pendingOf, cycleOf}
+use Rattle.trees.specs.Trees.{Tree, constant}
+use Rattle.linking.specs.Free.{isLive}
+use Rattle.marking.specs.Fields.{flagsOf}
+use Rattle.reading.specs.Tables.{currentOf, pendingOf, cycleOf}
 use Rattle.telling.specs.Formulas.{ownCells}
 use Rattle.telling.specs.Whole.{usedCells}
 use Rattle.resting.specs.AtRest.{subsOf, depsOf, freeOf}
 use Rattle.meaning.specs.State.{St}
 use Rattle.meaning.specs.Setters.{withLog, withStuck}
 use Rattle.meaning.specs.Words.{formulaOf}
-use Rattle.refusals.specs.Sight.{kindOf, roomIn}
+use Rattle.refusing.specs.Sight.{kindOf, roomIn}
 use Rattle.structure.specs.Rep.{hasForm}
 
 -- past the last node there are no lists

@@ -13,10 +13,10 @@ use Rattle.primitive.specs.declared.values.Value.{Value}
 use Rattle.primitive.specs.Flags.{named}
 use Rattle.primitive.specs.Queue.{queueOf}
 use Rattle.primitive.specs.Words.{NODE, LINK, COUNT, USED, DEPTH, QUEUE, FLAGS, KIND, GONE, START, CELLS, READS, OWNER, LEVEL, VERSION, DEP, SUB, NEXT-DEP, FREE, SIGNAL, COMPUTED, EFFECT, SCOPE, node, link}
-use Rattle.formula.specs.Trees.{Tree, constant, written, size, names}
-use Rattle.links.specs.Free.{isLive}
-use Rattle.marks.specs.Fields.{flagsOf}
-use Rattle.reads.specs.Tables.{currentOf, pendingOf, cycleOf}
+use Rattle.trees.specs.Trees.{Tree, constant, written, size, names}
+use Rattle.linking.specs.Free.{isLive}
+use Rattle.marking.specs.Fields.{flagsOf}
+use Rattle.reading.specs.Tables.{currentOf, pendingOf, cycleOf}
 use Rattle.telling.specs.Formulas.{ownCells}
 use Rattle.telling.specs.Whole.{usedCells}
 use Rattle.lists.specs.Sum.{bit}
@@ -24,7 +24,7 @@ use Rattle.resting.specs.declared.linked.Side.{Side}
 use Rattle.resting.specs.Linked.{subscribers, dependencies}
 use Rattle.meaning.specs.State.{St, Kind, signal, computed, effect, scope, Room, deps}
 use Rattle.meaning.specs.Played.{byte}
-use Rattle.refusals.specs.Sight.{kindOf}
+use Rattle.refusing.specs.Sight.{kindOf}
 use Rattle.structure.specs.Chains.{lastWord, Chain, Back}
 
 -- ---- lengths: a header row and a row for each node or slot; two values of two words for each node; cells of two words

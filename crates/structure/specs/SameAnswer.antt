@@ -3,7 +3,7 @@ use mathlib.Core.Path.{_≡_}
 use mathlib.Core.List.{List}
 use lib.IntN.{ℤ}
 use Rattle.meaning.specs.Commands.{Answer}
-use Rattle.engine.specs.Command.{Answered}
+use Rattle.commanding.specs.Command.{Answered}
 use Rattle.structure.specs.Logged.{Logged}
 use Rattle.structure.specs.Rep.{Rep}
 

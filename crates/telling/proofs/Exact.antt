@@ -9,15 +9,15 @@ use lib.IntN.{ℤ}
 use lib.ListN.{length, getD, take, drop, length-take, length-drop}
 use borrow.Author.Tests.{eqb-true, eq-eqb, leb-true, le-leb, ltb-true, ltb-false, lt-ltb}
 use Rattle.primitive.specs.Words.{START, CELLS, READS, OWNER, LEVEL, COUNT, USED, KIND, GONE, SIGNAL, COMPUTED, EFFECT, SCOPE, node}
-use Rattle.formula.specs.Trees.{Tree, size, names, written}
-use Rattle.formula.specs.Legal.{legalIn}
-use Rattle.formula.specs.Names.{allNamed, readCells, tallest, tallestIn, heightIn, mostHeight}
-use Rattle.formula.proofs.Ends.{all-named, read-cells}
-use Rattle.formula.proofs.Exact.{legal-sound, legal-complete}
-use Rattle.formula.proofs.Written.{size-some, length-written}
-use Rattle.counts.specs.Counts.{nodeRoom, slotRoom, cellRoom, carryIn, reserveIn}
+use Rattle.trees.specs.Trees.{Tree, size, names, written}
+use Rattle.trees.specs.Legal.{legalIn}
+use Rattle.trees.specs.Names.{allNamed, readCells, tallest, tallestIn, heightIn, mostHeight}
+use Rattle.trees.proofs.Ends.{all-named, read-cells}
+use Rattle.trees.proofs.Exact.{legal-sound, legal-complete}
+use Rattle.trees.proofs.Written.{size-some, length-written}
+use Rattle.counting.specs.Counts.{nodeRoom, slotRoom, cellRoom, carryIn, reserveIn}
 use Rattle.telling.specs.Formulas.{lowerRank, ownCells, allLower, readsLower, formulaIn}
-use Rattle.counts.specs.Depths.{mostOwnerDepth, depthUnder}
+use Rattle.counting.specs.Depths.{mostOwnerDepth, depthUnder}
 use Rattle.telling.specs.Levels.{levelKept}
 use Rattle.telling.specs.Nodes.{row, standsAlone, signalIn, computedIn, scopeIn, effectIn, nodeIn, nodesIn}
 use Rattle.telling.specs.Rules.{AllLower, HasFormula, SignalRow, ComputedRow, ScopeRow, NodeRow, a-signal, a-computed, an-effect, a-scope, Described}

@@ -7,12 +7,12 @@ use lib.IntN.{ℤ, pos}
 use lib.ListN.{replicate, set}
 use Rattle.primitive.specs.Rows.{hasField, field, setField}
 use Rattle.primitive.specs.Words.{KIND, GONE, START, CELLS, READS, OWNER, LEVEL, COUNT, USED, SIGNAL, COMPUTED, EFFECT, SCOPE, setNode}
-use Rattle.formula.specs.Cells.{readOf, bareOf, codes, cellOf, arityOf, nameOf, cellAt}
-use Rattle.formula.specs.Legal.{readKind, readableIn, knownIn, takesIn, inTurn, oneAt, legalIn}
-use Rattle.formula.specs.Names.{named, allNamed, readCells, tallest, tallestIn, heightIn}
-use Rattle.counts.specs.Counts.{withinMost, wholeRows, withinAll, carryIn, countedIn, total, reserveOf, reserveIn}
+use Rattle.trees.specs.Cells.{readOf, bareOf, codes, cellOf, arityOf, nameOf, cellAt}
+use Rattle.trees.specs.Legal.{readKind, readableIn, knownIn, takesIn, inTurn, oneAt, legalIn}
+use Rattle.trees.specs.Names.{named, allNamed, readCells, tallest, tallestIn, heightIn}
+use Rattle.counting.specs.Counts.{withinMost, wholeRows, withinAll, carryIn, countedIn, total, reserveOf, reserveIn}
 use Rattle.telling.specs.Formulas.{lowerRank, ownCells, allLower, readsLower, formulaIn}
-use Rattle.counts.specs.Depths.{depthUnder}
+use Rattle.counting.specs.Depths.{depthUnder}
 use Rattle.telling.specs.Levels.{levelKept}
 use Rattle.telling.specs.Nodes.{standsAlone, signalIn, computedIn, scopeIn, effectIn, nodeIn, nodesIn}
 use Rattle.telling.specs.Whole.{describedIn}

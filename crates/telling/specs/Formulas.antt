@@ -6,10 +6,10 @@ use lib.Dec.{eqb, leb, ltb}
 use lib.IntN.{ℤ}
 use lib.ListN.{length, take, drop}
 use Rattle.primitive.specs.Words.{START, CELLS, READS, node}
-use Rattle.formula.specs.declared.cells.Cell.{Cell}
-use Rattle.formula.specs.Cells.{nameOf, orElse}
-use Rattle.formula.specs.Legal.{legalIn}
-use Rattle.formula.specs.Names.{allNamed, readCells}
+use Rattle.trees.specs.declared.cells.Cell.{Cell}
+use Rattle.trees.specs.Cells.{nameOf, orElse}
+use Rattle.trees.specs.Legal.{legalIn}
+use Rattle.trees.specs.Names.{allNamed, readCells}
 
 -- the place of a node in the order of dependency: today its number
 abbrev pub rankOf : ℕ → ℕ

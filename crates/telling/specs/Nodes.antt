@@ -5,9 +5,9 @@ use Prim.Native.Nat.{ℕ, zero, suc}
 use lib.Dec.{eqb, leb}
 use lib.IntN.{ℤ}
 use Rattle.primitive.specs.Words.{KIND, GONE, OWNER, LEVEL, SIGNAL, COMPUTED, EFFECT, SCOPE, node}
-use Rattle.formula.specs.Names.{mostHeight, heightIn}
+use Rattle.trees.specs.Names.{mostHeight, heightIn}
 use Rattle.telling.specs.Formulas.{ownCells, formulaIn}
-use Rattle.counts.specs.Depths.{mostOwnerDepth, depthUnder}
+use Rattle.counting.specs.Depths.{mostOwnerDepth, depthUnder}
 use Rattle.telling.specs.Levels.{levelKept}
 
 -- the first where it is so, else the second

@@ -6,12 +6,12 @@ use Prim.Native.Nat.{ℕ, suc, _+_, _/_, _<_, _≤_}
 use lib.IntN.{ℤ}
 use lib.ListN.{length, getD}
 use Rattle.primitive.specs.Words.{COUNT, USED, KIND, GONE, START, CELLS, READS, OWNER, LEVEL, SIGNAL, COMPUTED, EFFECT, SCOPE, node}
-use Rattle.formula.specs.Trees.{Tree, size, names}
-use Rattle.formula.specs.Legal.{FormulaOf}
-use Rattle.formula.specs.Names.{mostHeight, tallest}
-use Rattle.counts.specs.Counts.{nodeRoom, slotRoom, cellRoom, carryIn, reserveIn}
+use Rattle.trees.specs.Trees.{Tree, size, names}
+use Rattle.trees.specs.Legal.{FormulaOf}
+use Rattle.trees.specs.Names.{mostHeight, tallest}
+use Rattle.counting.specs.Counts.{nodeRoom, slotRoom, cellRoom, carryIn, reserveIn}
 use Rattle.telling.specs.Formulas.{rankOf, ownCells}
-use Rattle.counts.specs.Depths.{mostOwnerDepth, depthUnder}
+use Rattle.counting.specs.Depths.{mostOwnerDepth, depthUnder}
 use Rattle.telling.specs.Whole.{usedCells}
 
 abbrev pub AllLower : List ℕ → ℕ → Type 0

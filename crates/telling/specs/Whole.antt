@@ -6,7 +6,7 @@ use lib.Dec.{leb}
 use lib.IntN.{ℤ}
 use lib.ListN.{getD, take}
 use Rattle.primitive.specs.Words.{COUNT, USED}
-use Rattle.counts.specs.Counts.{nodeRoom, slotRoom, cellRoom, carryIn, reserveIn}
+use Rattle.counting.specs.Counts.{nodeRoom, slotRoom, cellRoom, carryIn, reserveIn}
 use Rattle.telling.specs.Nodes.{nodesIn}
 
 -- the words of the cells in use

@@ -5,11 +5,11 @@ use Prim.Native.Nat.{ℕ, _≤_}
 use native.Mathlib.Omega.{arith}
 use lib.IntN.{ℤ}
 use Rattle.primitive.specs.declared.slots.Slot.{Slot}
-use Rattle.links.specs.Table.{Tab}
-use Rattle.links.specs.Free.{live}
-use Rattle.links.specs.Ring.{Unlinks, Runs, Unwatches, Disposes, Purges}
-use Rattle.reads.specs.Tables.{rankOf}
-use Rattle.reads.specs.Ring.{Ring, Enough}
+use Rattle.linking.specs.Table.{Tab}
+use Rattle.linking.specs.Free.{live}
+use Rattle.linking.specs.Ring.{Unlinks, Runs, Unwatches, Disposes, Purges}
+use Rattle.reading.specs.Tables.{rankOf}
+use Rattle.reading.specs.Ring.{Ring, Enough}
 
 pub unlinks-one : (t : Tab) (s sub : ℕ) (r r′ : Slot) (u u′ : Tab) → Unlinks t s sub r u → Unlinks t s sub r′ u′ → (r ≡ r′) × (u ≡ u′)
 unlinks-one t s sub r r′ u u′ p q =

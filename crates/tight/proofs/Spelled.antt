@@ -4,11 +4,11 @@ use mathlib.Core.Logic.{_↔_}
 use contract.Lifetimes.{Lfts}
 use denote.Triple.Clauses.{Lasts, atExit}
 use borrow.Fn.Kinds.{Dens, endedOf}
-use Rattle.operations.specs.Emptying.{emptied, emptying}
+use Rattle.operating.specs.Emptying.{emptied, emptying}
 use Rattle.operations.proofs.emptying.empty.Kinds as empty-kinds
 use Rattle.operations.proofs.emptying.empty.Reads as empty
 use Rattle.engine.specs.declared.command.Answer.{Answer}
-use Rattle.engine.specs.Command.{answered, commandIn}
+use Rattle.commanding.specs.Command.{answered, commandIn}
 use Rattle.engine.proofs.command.command.Kinds as command-kinds
 use Rattle.engine.proofs.command.command.Reads as command
 use Rattle.script.specs.declared.turns.Turn.{Turn}

@@ -1,5 +1,5 @@
 -- `making::describe` meets its contract. Assumes nothing.
-use Rattle.making.specs.Making.{described, setAll}
+use Rattle.operating.specs.Making.{described, setAll}
 use native.Mathlib.Omega.{arith}
 use borrow.Author.Needs.{needs}
 use Rattle.making.proofs.describe.Statement.{statement}

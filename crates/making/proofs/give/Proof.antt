@@ -1,5 +1,5 @@
 -- `making::give` meets its contract. Assumes nothing.
-use Rattle.making.specs.Making.{valued}
+use Rattle.operating.specs.Making.{valued}
 use borrow.Author.Needs.{needs}
 use Rattle.making.proofs.give.Statement.{statement}
 use Rattle.making.proofs.give.Tie as tie

@@ -1,6 +1,6 @@
 -- `making::has_room` meets its contract. Assumes nothing.
 use native.Mathlib.Omega.{arith}
-use Rattle.making.proofs.MakingLaws.{no-node, no-cells, some-cells}
+use Rattle.operating.proofs.MakingLaws.{no-node, no-cells, some-cells}
 use borrow.Author.Needs.{needs}
 use Rattle.making.proofs.has_room.Statement.{statement}
 use Rattle.making.proofs.has_room.Tie as tie

@@ -7,8 +7,8 @@ use borrow.Author.Needs.{needs}
 use mir.Syntax.{w64}
 use mir.Val.{toZ, ofZ}
 use mir.Facts.{toZ-ofZ}
-use Rattle.making.specs.Making.{laid}
-use Rattle.making.proofs.MakingLaws.{lay-step, lay-start, lay-done}
+use Rattle.operating.specs.Making.{laid}
+use Rattle.operating.proofs.MakingLaws.{lay-step, lay-start, lay-done}
 use Rattle.making.proofs.lay.Statement.{statement}
 use Rattle.making.proofs.lay.Tie as tie
 

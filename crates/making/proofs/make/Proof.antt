@@ -3,7 +3,7 @@ use mathlib.Core.Path.{sym, _∙_}
 use Prim.Native.Nat.{_/_}
 use native.Mathlib.Omega.{arith}
 use lib.ListN.{length}
-use Rattle.making.proofs.MakingLaws.{room-node, room-cells, make-room, make-full}
+use Rattle.operating.proofs.MakingLaws.{room-node, room-cells, make-room, make-full}
 use borrow.Author.Needs.{needs}
 use Rattle.making.proofs.make.Statement.{statement}
 use Rattle.making.proofs.make.Tie as tie

@@ -1,5 +1,5 @@
 -- `making::new_computed` meets its contract. Assumes nothing.
-use Rattle.making.specs.Making.{newComputed}
+use Rattle.operating.specs.Making.{newComputed}
 use borrow.Author.Needs.{needs}
 use Rattle.making.proofs.new_computed.Statement.{statement}
 use Rattle.making.proofs.new_computed.Tie as tie

@@ -1,5 +1,5 @@
 -- `making::new_effect` meets its contract. Assumes nothing.
-use Rattle.making.specs.Making.{newEffect}
+use Rattle.operating.specs.Making.{newEffect}
 use borrow.Author.Needs.{needs}
 use Rattle.making.proofs.new_effect.Statement.{statement}
 use Rattle.making.proofs.new_effect.Tie as tie

@@ -1,5 +1,5 @@
 -- `making::new_scope` meets its contract. Assumes nothing.
-use Rattle.making.specs.Making.{newScope}
+use Rattle.operating.specs.Making.{newScope}
 use borrow.Author.Needs.{needs}
 use Rattle.making.proofs.new_scope.Statement.{statement}
 use Rattle.making.proofs.new_scope.Tie as tie

@@ -1,5 +1,5 @@
 -- `making::new_signal` meets its contract. Assumes nothing.
-use Rattle.making.specs.Making.{newSignal}
+use Rattle.operating.specs.Making.{newSignal}
 use borrow.Author.Needs.{needs}
 use Rattle.making.proofs.new_signal.Statement.{statement}
 use Rattle.making.proofs.new_signal.Tie as tie

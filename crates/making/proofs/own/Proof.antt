@@ -1,5 +1,5 @@
 -- `making::own` meets its contract. Assumes nothing.
-use Rattle.making.specs.Making.{owned}
+use Rattle.operating.specs.Making.{owned}
 use borrow.Author.Needs.{needs}
 use Rattle.making.proofs.own.Statement.{statement}
 use Rattle.making.proofs.own.Tie as tie

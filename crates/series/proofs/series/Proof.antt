@@ -5,9 +5,9 @@ use native.Mathlib.Omega.{arith}
 use lib.ListN.{length}
 use borrow.Author.Needs.{needs}
 use borrow.Rule.Slice.PartMut.{same-len-mid}
-use Rattle.engine.specs.Tables.{wellFormedIn}
-use Rattle.series.specs.Series.{going, seriesFrom, seriesIn}
-use Rattle.series.proofs.SeriesLaws.{series-start, step-of, is-over, stop-here, go-on, went}
+use Rattle.commanding.specs.Tables.{wellFormedIn}
+use Rattle.sequencing.specs.Series.{going, seriesFrom, seriesIn}
+use Rattle.sequencing.proofs.SeriesLaws.{series-start, step-of, is-over, stop-here, go-on, went}
 use Rattle.series.proofs.series.Statement.{statement}
 use Rattle.series.proofs.series.Tie as tie
 

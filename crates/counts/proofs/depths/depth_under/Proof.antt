@@ -1,5 +1,5 @@
 -- `counts::depths::depth_under` meets its contract. Assumes nothing.
-use Rattle.counts.proofs.DepthLaws.{under-none, under-some}
+use Rattle.counting.proofs.DepthLaws.{under-none, under-some}
 use native.Mathlib.Omega.{arith}
 use borrow.Author.Needs.{needs}
 use Rattle.counts.proofs.depths.depth_under.Statement.{statement}

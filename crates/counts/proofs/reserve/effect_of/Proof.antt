@@ -1,5 +1,5 @@
 -- `counts::reserve::effect_of` meets its contract. Assumes nothing.
-use Rattle.counts.specs.Counts.{effectOf}
+use Rattle.counting.specs.Counts.{effectOf}
 use borrow.Author.Tests.{eq-eqb, ne-eqb}
 use borrow.Author.Needs.{needs}
 use Rattle.counts.proofs.reserve.effect_of.Statement.{statement}

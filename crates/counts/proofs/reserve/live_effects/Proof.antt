@@ -3,8 +3,8 @@ use mathlib.Core.Path.{_≡_, sym, ap, _∙_}
 use Prim.Native.Nat.{_-_, _≤_}
 use native.Mathlib.Omega.{arith}
 use borrow.Author.Needs.{needs}
-use Rattle.counts.specs.Counts.{total, effectOf, liveEffectsIn, countedIn}
-use Rattle.counts.proofs.Sums.{total-none, total-more, effect-most}
+use Rattle.counting.specs.Counts.{total, effectOf, liveEffectsIn, countedIn}
+use Rattle.counting.proofs.Sums.{total-none, total-more, effect-most}
 use Rattle.counts.proofs.reserve.live_effects.Statement.{statement}
 use Rattle.counts.proofs.reserve.live_effects.Tie as tie
 

@@ -1,5 +1,5 @@
 -- `counts::reserve::owned` meets its contract. Assumes nothing.
-use Rattle.counts.proofs.Sums.{owned-some}
+use Rattle.counting.proofs.Sums.{owned-some}
 use borrow.Author.Needs.{needs}
 use Rattle.counts.proofs.reserve.owned.Statement.{statement}
 use Rattle.counts.proofs.reserve.owned.Tie as tie

@@ -3,8 +3,8 @@ use mathlib.Core.Path.{_≡_, ap, _∙_}
 use Prim.Native.Nat.{ℕ, _-_, _≤_, min}
 use native.Mathlib.Omega.{arith}
 use borrow.Author.Needs.{needs}
-use Rattle.counts.specs.Counts.{total, top, reserveOf, reserveIn, countedIn}
-use Rattle.counts.proofs.Sums.{total-none, stopped-more}
+use Rattle.counting.specs.Counts.{total, top, reserveOf, reserveIn, countedIn}
+use Rattle.counting.proofs.Sums.{total-none, stopped-more}
 use Rattle.counts.proofs.reserve.reserve.Statement.{statement}
 use Rattle.counts.proofs.reserve.reserve.Tie as tie
 

@@ -1,7 +1,7 @@
 -- `counts::reserve::reserve_of` meets its contract. Assumes nothing.
 use native.Mathlib.Omega.{arith}
-use Rattle.counts.proofs.Sums.{owned-most}
-use Rattle.counts.specs.Counts.{reserveOf}
+use Rattle.counting.proofs.Sums.{owned-most}
+use Rattle.counting.specs.Counts.{reserveOf}
 use borrow.Author.Tests.{eq-eqb, ne-eqb}
 use borrow.Author.Needs.{needs}
 use Rattle.counts.proofs.reserve.reserve_of.Statement.{statement}

@@ -1,5 +1,5 @@
 -- `counts::room::carry` meets its contract. Assumes nothing.
-use Rattle.counts.specs.Counts.{carryIn, wholeRows, withinAll}
+use Rattle.counting.specs.Counts.{carryIn, wholeRows, withinAll}
 use borrow.Author.Tests.{eq-eqb, ne-eqb, not-true, not-false}
 use borrow.Author.Needs.{needs}
 use Rattle.counts.proofs.room.carry.Statement.{statement}

@@ -1,5 +1,5 @@
 -- `counts::room::counted` meets its contract. Assumes nothing.
-use Rattle.counts.specs.Counts.{countedIn}
+use Rattle.counting.specs.Counts.{countedIn}
 use native.Mathlib.Omega.{arith}
 use borrow.Author.Needs.{needs}
 use Rattle.counts.proofs.room.counted.Statement.{statement}

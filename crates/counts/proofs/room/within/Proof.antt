@@ -1,5 +1,5 @@
 -- `counts::room::within` meets its contract. Assumes nothing.
-use Rattle.counts.specs.Counts.{withinMost}
+use Rattle.counting.specs.Counts.{withinMost}
 use borrow.Author.Tests.{eq-eqb, ne-eqb}
 use Rattle.counts.proofs.room.within.Statement.{statement}
 use Rattle.counts.proofs.room.within.Tie as tie

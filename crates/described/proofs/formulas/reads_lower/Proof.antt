@@ -1,7 +1,7 @@
 -- `described::formulas::reads_lower` meets its contract. Assumes nothing.
 use Rattle.described.proofs.FormulaLaws.{lower-start, lower-false, lower-true, lower-done}
 use Rattle.telling.specs.Formulas.{allLower, readsLower}
-use Rattle.formula.specs.Names.{named}
+use Rattle.trees.specs.Names.{named}
 use borrow.Author.Needs.{needs}
 use borrow.Author.Tests.{not-true, not-false}
 use mathlib.Core.Path.{_≡_, sym, _∙_}

@@ -1,5 +1,5 @@
 -- `engine::command::command` meets its contract. Assumes nothing.
-use Rattle.engine.proofs.EngineLaws.{command-tested}
+use Rattle.commanding.proofs.EngineLaws.{command-tested}
 use borrow.Author.Needs.{needs}
 use Rattle.engine.proofs.command.command.Statement.{statement}
 use Rattle.engine.proofs.command.command.Tie as tie

@@ -5,9 +5,9 @@ use mir.Facts.{toZ-ofZ}
 use mathlib.Core.Path.{_≡_}
 use Prim.Native.Nat.{_≤_}
 use lib.ListN.{length}
-use Rattle.refusals.proofs.CommandLaws.{from-inside}
-use Rattle.refusals.proofs.MakingLaws.{part-is}
-use Rattle.engine.proofs.EngineLaws.{command-refused, command-done}
+use Rattle.refusing.proofs.CommandLaws.{from-inside}
+use Rattle.refusing.proofs.MakingLaws.{part-is}
+use Rattle.commanding.proofs.EngineLaws.{command-refused, command-done}
 use borrow.Author.Needs.{needs}
 use Rattle.engine.proofs.command.command_on.Statement.{statement}
 use Rattle.engine.proofs.command.command_on.Tie as tie

@@ -1,5 +1,5 @@
 -- `engine::command::refusal` meets its contract. Assumes nothing.
-use Rattle.engine.proofs.EngineLaws.{refusal-tested}
+use Rattle.commanding.proofs.EngineLaws.{refusal-tested}
 use borrow.Author.Needs.{needs}
 use Rattle.engine.proofs.command.refusal.Statement.{statement}
 use Rattle.engine.proofs.command.refusal.Tie as tie

@@ -1,5 +1,5 @@
 -- `engine::command::refusal_on` meets its contract. Assumes nothing.
-use Rattle.engine.proofs.EngineLaws.{decided, not-tables}
+use Rattle.commanding.proofs.EngineLaws.{decided, not-tables}
 use borrow.Author.Needs.{needs}
 use Rattle.engine.proofs.command.refusal_on.Statement.{statement}
 use Rattle.engine.proofs.command.refusal_on.Tie as tie

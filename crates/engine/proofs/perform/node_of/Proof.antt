@@ -3,7 +3,7 @@ use mathlib.Core.Path.{_≡_}
 use mir.Syntax.{w64}
 use mir.Val.{toZ, ofZ}
 use mir.Facts.{toZ-ofZ}
-use Rattle.engine.proofs.EngineLaws.{node-is, node-none}
+use Rattle.commanding.proofs.EngineLaws.{node-is, node-none}
 use borrow.Author.Needs.{needs}
 use Rattle.engine.proofs.perform.node_of.Statement.{statement}
 use Rattle.engine.proofs.perform.node_of.Tie as tie

@@ -3,7 +3,7 @@ use mathlib.Core.Path.{_≡_}
 use mir.Syntax.{w64}
 use mir.Val.{toZ, ofZ}
 use mir.Facts.{toZ-ofZ}
-use Rattle.engine.proofs.EngineLaws.{owner-is, owner-none, owner-low}
+use Rattle.commanding.proofs.EngineLaws.{owner-is, owner-none, owner-low}
 use borrow.Author.Needs.{needs}
 use Rattle.engine.proofs.perform.owner_word.Statement.{statement}
 use Rattle.engine.proofs.perform.owner_word.Tie as tie

@@ -1,11 +1,11 @@
 -- `engine::perform::perform` meets its contract. Assumes nothing.
-use Rattle.making.specs.Making.{newSignal}
+use Rattle.operating.specs.Making.{newSignal}
 use mir.Syntax.{w64}
 use mir.Val.{toZ, ofZ}
 use mir.Facts.{toZ-ofZ}
 use mathlib.Core.Path.{_≡_, ap, _∙_}
-use Rattle.engine.specs.Perform.{performed}
-use Rattle.engine.proofs.EngineLaws.{numbered-by, read-by}
+use Rattle.commanding.specs.Perform.{performed}
+use Rattle.commanding.proofs.EngineLaws.{numbered-by, read-by}
 use borrow.Author.Needs.{needs}
 use Rattle.engine.proofs.perform.perform.Statement.{statement}
 use Rattle.engine.proofs.perform.perform.Tie as tie

@@ -1,5 +1,5 @@
 -- `engine::tables::well_formed` meets its contract. Assumes nothing.
-use Rattle.engine.proofs.EngineLaws.{described-so, described-not}
+use Rattle.commanding.proofs.EngineLaws.{described-so, described-not}
 use borrow.Author.Needs.{needs}
 use Rattle.engine.proofs.tables.well_formed.Statement.{statement}
 use Rattle.engine.proofs.tables.well_formed.Tie as tie

@@ -1,5 +1,5 @@
 -- `formula::cells::arity` meets its contract. Assumes nothing.
-use Rattle.formula.specs.Cells.{arityOf}
+use Rattle.trees.specs.Cells.{arityOf}
 use borrow.Author.Needs.{needs}
 use Rattle.formula.proofs.cells.arity.Statement.{statement}
 use Rattle.formula.proofs.cells.arity.Tie as tie

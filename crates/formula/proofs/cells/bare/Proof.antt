@@ -1,6 +1,6 @@
 -- `formula::cells::bare` meets its contract. Assumes nothing.
 use mir.Facts.{toZ-ofZ}
-use Rattle.formula.proofs.CellLaws.{bare-none, bare-is, bare-not}
+use Rattle.trees.proofs.CellLaws.{bare-none, bare-is, bare-not}
 use borrow.Author.Needs.{needs}
 use Rattle.formula.proofs.cells.bare.Statement.{statement}
 use Rattle.formula.proofs.cells.bare.Tie as tie

@@ -1,7 +1,7 @@
 -- `formula::cells::cell_at` meets its contract. Assumes nothing.
 use mir.Syntax.{w64}
 use mir.Val.{toZ, ofZ}
-use Rattle.formula.proofs.CellLaws.{cell-in, cell-out}
+use Rattle.trees.proofs.CellLaws.{cell-in, cell-out}
 use mathlib.Core.Path.{_≡_, _∙_}
 use mir.Facts.{toZ-ofZ}
 use borrow.Author.Needs.{needs}

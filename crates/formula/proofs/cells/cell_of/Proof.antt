@@ -1,7 +1,7 @@
 -- `formula::cells::cell_of` meets its contract. Assumes nothing.
 use mir.Facts.{toZ-ofZ}
-use Rattle.formula.proofs.CellLaws.{code-none, code-is, code-past}
-use Rattle.formula.specs.Cells.{codes}
+use Rattle.trees.proofs.CellLaws.{code-none, code-is, code-past}
+use Rattle.trees.specs.Cells.{codes}
 use mathlib.Core.Path.{refl, _∙_}
 use borrow.Author.Needs.{needs}
 use Rattle.formula.proofs.cells.cell_of.Statement.{statement}

@@ -2,8 +2,8 @@
 use borrow.Author.Needs.{needs}
 use native.Mathlib.Omega.{arith}
 use mathlib.Core.Path.{_≡_, refl, sym, ap, _∙_}
-use Rattle.formula.proofs.ScanLaws.{arity-inside, count-done, count-stops, count-turns}
-use Rattle.formula.specs.Cells.{arityOf, settled, endOf}
+use Rattle.trees.proofs.ScanLaws.{arity-inside, count-done, count-stops, count-turns}
+use Rattle.trees.specs.Cells.{arityOf, settled, endOf}
 use Prim.Native.Nat.{_+_, _*_, _-_, _/_, _≤_}
 use lib.ListN.{length}
 use Rattle.formula.proofs.cells.end.Statement.{statement}

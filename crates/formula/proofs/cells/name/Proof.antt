@@ -1,5 +1,5 @@
 -- `formula::cells::name` meets its contract. Assumes nothing.
-use Rattle.formula.specs.Cells.{nameOf}
+use Rattle.trees.specs.Cells.{nameOf}
 use borrow.Author.Needs.{needs}
 use Rattle.formula.proofs.cells.name.Statement.{statement}
 use Rattle.formula.proofs.cells.name.Tie as tie

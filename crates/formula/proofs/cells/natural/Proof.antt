@@ -1,5 +1,5 @@
 -- `formula::cells::natural` meets its contract. Assumes nothing.
-use Rattle.formula.proofs.CellLaws.{natural-none, natural-fits, natural-is}
+use Rattle.trees.proofs.CellLaws.{natural-none, natural-fits, natural-is}
 use Rattle.formula.proofs.cells.natural.Statement.{statement}
 use Rattle.formula.proofs.cells.natural.Tie as tie
 

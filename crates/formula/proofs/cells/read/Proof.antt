@@ -1,6 +1,6 @@
 -- `formula::cells::read` meets its contract. Assumes nothing.
 use mir.Facts.{toZ-ofZ}
-use Rattle.formula.proofs.CellLaws.{read-none, read-is}
+use Rattle.trees.proofs.CellLaws.{read-none, read-is}
 use borrow.Author.Needs.{needs}
 use Rattle.formula.proofs.cells.read.Statement.{statement}
 use Rattle.formula.proofs.cells.read.Tie as tie

@@ -1,9 +1,9 @@
 -- The cycle of calls `formula::legal::one` meets its contracts. Assumes nothing.
-use Rattle.formula.proofs.LegalLaws.{rest, takes-inside, one-none, one-bad, one-rest, rest-end, rest-bad, rest-more}
+use Rattle.trees.proofs.LegalLaws.{rest, takes-inside, one-none, one-bad, one-rest, rest-end, rest-bad, rest-more}
 use mathlib.Core.Path.{_≡_, refl, sym, ap, _∙_}
 use native.Mathlib.Omega.{arith}
 use Prim.Native.Nat.{_-_}
-use Rattle.formula.specs.Legal.{takesIn}
+use Rattle.trees.specs.Legal.{takesIn}
 use Prim.Native.Nat.{ℕ, _<_}
 use borrow.Author.Needs.{needs}
 use borrow.Fn.Kinds.{In}

@@ -1,5 +1,5 @@
 -- `formula::legal::known` meets its contract. Assumes nothing.
-use Rattle.formula.proofs.LegalLaws.{known-none, known-some}
+use Rattle.trees.proofs.LegalLaws.{known-none, known-some}
 use mathlib.Core.Path.{_∙_}
 use borrow.Author.Needs.{needs}
 use Rattle.formula.proofs.legal.known.Statement.{statement}

@@ -1,5 +1,5 @@
 -- `formula::legal::legal` meets its contract. Assumes nothing.
-use Rattle.formula.proofs.LegalLaws.{legal-odd, legal-long, legal-none, legal-ends}
+use Rattle.trees.proofs.LegalLaws.{legal-odd, legal-long, legal-none, legal-ends}
 use borrow.Author.Needs.{needs}
 use Rattle.formula.proofs.legal.legal.Statement.{statement}
 use Rattle.formula.proofs.legal.legal.Tie as tie

@@ -1,5 +1,5 @@
 -- `formula::legal::readable` meets its contract. Assumes nothing.
-use Rattle.formula.proofs.LegalLaws.{readable-past, readable-signal, readable-other}
+use Rattle.trees.proofs.LegalLaws.{readable-past, readable-signal, readable-other}
 use borrow.Author.Needs.{needs}
 use Rattle.formula.proofs.legal.readable.Statement.{statement}
 use Rattle.formula.proofs.legal.readable.Tie as tie

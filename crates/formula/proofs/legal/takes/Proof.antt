@@ -1,5 +1,5 @@
 -- `formula::legal::takes` meets its contract. Assumes nothing.
-use Rattle.formula.proofs.LegalLaws.{takes-not, takes-known}
+use Rattle.trees.proofs.LegalLaws.{takes-not, takes-known}
 use mathlib.Core.Path.{sym, _∙_}
 use borrow.Author.Tests.{not-true, not-false}
 use borrow.Author.Needs.{needs}

@@ -1,6 +1,6 @@
 -- `formula::scans::height` meets its contract. Assumes nothing.
 use native.Mathlib.Omega.{arith}
-use Rattle.formula.specs.Names.{heightIn}
+use Rattle.trees.specs.Names.{heightIn}
 use borrow.Author.Needs.{needs}
 use Rattle.formula.proofs.scans.height.Statement.{statement}
 use Rattle.formula.proofs.scans.height.Tie as tie

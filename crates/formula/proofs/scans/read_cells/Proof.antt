@@ -1,10 +1,10 @@
 -- `formula::scans::read_cells` meets its contract. Assumes nothing.
-use Rattle.formula.proofs.ScanLaws.{reads-start, reads-most}
+use Rattle.trees.proofs.ScanLaws.{reads-start, reads-most}
 use borrow.Author.Needs.{needs}
 use native.Mathlib.Omega.{arith}
 use mathlib.Core.Path.{_≡_, ap, _∙_}
-use Rattle.formula.proofs.ScanLaws.{reads-turns, reads-done}
-use Rattle.formula.specs.Names.{named, readCells, isRead}
+use Rattle.trees.proofs.ScanLaws.{reads-turns, reads-done}
+use Rattle.trees.specs.Names.{named, readCells, isRead}
 use Prim.Native.Nat.{_+_, _-_, _≤_}
 use lib.ListN.{length}
 use Rattle.formula.proofs.scans.read_cells.Statement.{statement}

@@ -1,5 +1,5 @@
 -- `formula::scans::reads` meets its contract. Assumes nothing.
-use Rattle.formula.proofs.ScanLaws.{reads-none, reads-one}
+use Rattle.trees.proofs.ScanLaws.{reads-none, reads-one}
 use borrow.Author.Needs.{needs}
 use Rattle.formula.proofs.scans.reads.Statement.{statement}
 use Rattle.formula.proofs.scans.reads.Tie as tie

@@ -1,5 +1,5 @@
 -- `formula::scans::taller` meets its contract. Assumes nothing.
-use Rattle.formula.proofs.ScanLaws.{taller-none, taller-more, taller-less}
+use Rattle.trees.proofs.ScanLaws.{taller-none, taller-more, taller-less}
 use borrow.Author.Needs.{needs}
 use Rattle.formula.proofs.scans.taller.Statement.{statement}
 use Rattle.formula.proofs.scans.taller.Tie as tie

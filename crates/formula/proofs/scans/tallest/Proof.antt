@@ -1,10 +1,10 @@
 -- `formula::scans::tallest` meets its contract. Assumes nothing.
-use Rattle.formula.proofs.ScanLaws.{taller-start}
+use Rattle.trees.proofs.ScanLaws.{taller-start}
 use borrow.Author.Needs.{needs}
 use native.Mathlib.Omega.{arith}
 use mathlib.Core.Path.{_≡_, sym, _∙_}
-use Rattle.formula.proofs.ScanLaws.{taller-turns, taller-done}
-use Rattle.formula.specs.Names.{named, tallest, tallestIn}
+use Rattle.trees.proofs.ScanLaws.{taller-turns, taller-done}
+use Rattle.trees.specs.Names.{named, tallest, tallestIn}
 use Prim.Native.Nat.{_-_, _≤_, max}
 use Rattle.formula.proofs.scans.tallest.Statement.{statement}
 use Rattle.formula.proofs.scans.tallest.Tie as tie

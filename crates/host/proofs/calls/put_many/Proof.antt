@@ -7,7 +7,7 @@ use native.Mathlib.Omega.{arith}
 use Prim.Native.Nat.{_<_}
 use lib.ListN.{length, set}
 use lib.Seq.{lt-length-set}
-use Rattle.host.proofs.ManyReplies.{no-reply, many-reply}
+use Rattle.hosting.proofs.ManyReplies.{no-reply, many-reply}
 use borrow.Author.Needs.{needs}
 use Rattle.host.proofs.calls.put_many.Statement.{statement}
 use Rattle.host.proofs.calls.put_many.Tie as tie

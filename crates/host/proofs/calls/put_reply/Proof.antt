@@ -7,7 +7,7 @@ use native.Mathlib.Omega.{arith}
 use Prim.Native.Nat.{_<_}
 use lib.ListN.{length, set}
 use lib.Seq.{lt-length-set}
-use Rattle.host.proofs.Replies.{short-reply, whole-reply}
+use Rattle.hosting.proofs.Replies.{short-reply, whole-reply}
 use borrow.Author.Needs.{needs}
 use Rattle.host.proofs.calls.put_reply.Statement.{statement}
 use Rattle.host.proofs.calls.put_reply.Tie as tie

@@ -1,5 +1,5 @@
 -- `host::calls::simmer_command` meets its contract. Assumes nothing.
-use Rattle.host.proofs.Replies.{not-called, call-done}
+use Rattle.hosting.proofs.Replies.{not-called, call-done}
 use mathlib.Core.Path.{_≡_}
 use mir.Syntax.{w64}
 use mir.Val.{toZ, ofZ}

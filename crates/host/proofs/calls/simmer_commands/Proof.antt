@@ -1,5 +1,5 @@
 -- `host::calls::simmer_commands` meets its contract. Assumes nothing.
-use Rattle.host.proofs.ManyReplies.{not-done, calls-done}
+use Rattle.hosting.proofs.ManyReplies.{not-done, calls-done}
 use borrow.Author.Needs.{needs}
 use Rattle.host.proofs.calls.simmer_commands.Statement.{statement}
 use Rattle.host.proofs.calls.simmer_commands.Tie as tie

@@ -1,6 +1,6 @@
 -- `host::calls::why_number` meets its contract. Assumes nothing.
 use mathlib.Core.Path.{sym, ap}
-use Rattle.host.specs.Many.{whyNumber}
+use Rattle.hosting.specs.Many.{whyNumber}
 use borrow.Author.Needs.{needs}
 use Rattle.host.proofs.calls.why_number.Statement.{statement}
 use Rattle.host.proofs.calls.why_number.Tie as tie

@@ -4,8 +4,8 @@ use native.Mathlib.Nat.{mul-le-mul, lt-of-le-of-lt}
 use Prim.Native.Nat.{_+_, _*_, _≤_}
 use borrow.Author.Tests.{eq-eqb, ne-eqb, le-leb, lt-leb}
 use borrow.Author.Needs.{needs}
-use Rattle.counts.specs.Counts.{withinMost}
-use Rattle.host.specs.Sizes.{wordsFor}
+use Rattle.counting.specs.Counts.{withinMost}
+use Rattle.hosting.specs.Sizes.{wordsFor}
 use Rattle.host.proofs.sizes.words_for.Statement.{statement}
 use Rattle.host.proofs.sizes.words_for.Tie as tie
 

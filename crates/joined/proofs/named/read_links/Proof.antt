@@ -4,7 +4,7 @@ use Rattle.lists.specs.Each.{tally}
 use Rattle.lists.proofs.EachLaws.{tally-out, tally-end, tally-more}
 use Rattle.joined.proofs.StampTurns.{read-most}
 use Rattle.primitive.specs.Rows.{field}
-use Rattle.formula.specs.Legal.{readableIn}
+use Rattle.trees.specs.Legal.{readableIn}
 use Rattle.resting.specs.Named.{isReadLink, readsFrom}
 use mathlib.Core.Path.{_≡_}
 use Prim.Native.Nat.{ℕ, _+_, _-_, _≤_}

@@ -1,6 +1,6 @@
 -- `joined::named::stamp_cell` meets its contract. Assumes nothing.
 use Rattle.joined.proofs.StampTurns.{cell-none, cell-some}
-use Rattle.formula.specs.Cells.{nameOf}
+use Rattle.trees.specs.Cells.{nameOf}
 use mathlib.Core.Path.{ap, _∙_}
 use Prim.Native.Nat.{_-_}
 use borrow.Author.Needs.{needs}

@@ -1,5 +1,5 @@
 -- `links::free::is_live` meets its contract. Assumes nothing.
-use Rattle.links.specs.Free.{isLive}
+use Rattle.linking.specs.Free.{isLive}
 use borrow.Author.Needs.{needs}
 use Rattle.links.proofs.free.is_live.Statement.{statement}
 use Rattle.links.proofs.free.is_live.Tie as tie

@@ -4,8 +4,8 @@ use mathlib.Core.Logic.{⊎-elim}
 use Prim.Native.Nat.{_-_, _≤_}
 use native.Mathlib.Omega.{arith}
 use borrow.Author.Needs.{needs}
-use Rattle.links.specs.Free.{liveBelow, live}
-use Rattle.links.proofs.FreeLaws.{below-le, below-more}
+use Rattle.linking.specs.Free.{liveBelow, live}
+use Rattle.linking.proofs.FreeLaws.{below-le, below-more}
 use Rattle.links.proofs.free.live.Statement.{statement}
 use Rattle.links.proofs.free.live.Tie as tie
 

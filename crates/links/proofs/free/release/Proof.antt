@@ -2,7 +2,7 @@
 use mathlib.Core.Path.{sym, _∙_}
 use native.Mathlib.Numerals.{add-one}
 use native.Mathlib.Omega.{arith}
-use Rattle.links.proofs.FreeLaws.{live-in, released-live, released-dead}
+use Rattle.linking.proofs.FreeLaws.{live-in, released-live, released-dead}
 use borrow.Author.Needs.{needs}
 use Rattle.links.proofs.free.release.Statement.{statement}
 use Rattle.links.proofs.free.release.Tie as tie

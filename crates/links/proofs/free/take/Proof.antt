@@ -1,5 +1,5 @@
 -- `links::free::take` meets its contract. Assumes nothing.
-use Rattle.links.specs.Free.{taken}
+use Rattle.linking.specs.Free.{taken}
 use borrow.Author.Needs.{needs}
 use Rattle.links.proofs.free.take.Statement.{statement}
 use Rattle.links.proofs.free.take.Tie as tie

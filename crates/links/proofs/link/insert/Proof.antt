@@ -1,5 +1,5 @@
 -- `links::link::insert` meets its contract. Assumes nothing.
-use Rattle.links.specs.Link.{inserted, joined}
+use Rattle.linking.specs.Link.{inserted, joined}
 use native.Mathlib.Omega.{arith}
 use borrow.Author.Needs.{needs}
 use Rattle.links.proofs.link.insert.Statement.{statement}

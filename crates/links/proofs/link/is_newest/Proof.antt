@@ -1,8 +1,8 @@
 -- `links::link::is_newest` meets its contract. Assumes nothing.
 use mathlib.Core.Path.{ap, _∙_}
 use Rattle.primitive.specs.Slots.{slotOf}
-use Rattle.links.specs.Link.{newest}
-use Rattle.links.proofs.LinkLaws.{newest-none, newest-same, newest-other}
+use Rattle.linking.specs.Link.{newest}
+use Rattle.linking.proofs.LinkLaws.{newest-none, newest-same, newest-other}
 use borrow.Author.Needs.{needs}
 use Rattle.links.proofs.link.is_newest.Statement.{statement}
 use Rattle.links.proofs.link.is_newest.Tie as tie

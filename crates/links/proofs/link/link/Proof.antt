@@ -1,5 +1,5 @@
 -- `links::link::link` meets its contract. Assumes nothing.
-use Rattle.links.proofs.LinkLaws.{link-kept, link-again, link-newest, link-made}
+use Rattle.linking.proofs.LinkLaws.{link-kept, link-again, link-newest, link-made}
 use borrow.Author.Needs.{needs}
 use Rattle.links.proofs.link.link.Statement.{statement}
 use Rattle.links.proofs.link.link.Tie as tie

@@ -1,5 +1,5 @@
 -- `links::link::names` meets its contract. Assumes nothing.
-use Rattle.links.specs.Link.{names}
+use Rattle.linking.specs.Link.{names}
 use borrow.Author.Needs.{needs}
 use Rattle.links.proofs.link.names.Statement.{statement}
 use Rattle.links.proofs.link.names.Tie as tie

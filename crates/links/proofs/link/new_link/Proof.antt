@@ -1,5 +1,5 @@
 -- `links::link::new_link` meets its contract. Assumes nothing.
-use Rattle.links.specs.Link.{made, written}
+use Rattle.linking.specs.Link.{made, written}
 use native.Mathlib.Omega.{arith}
 use borrow.Author.Needs.{needs}
 use Rattle.links.proofs.link.new_link.Statement.{statement}

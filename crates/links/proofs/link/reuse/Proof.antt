@@ -1,5 +1,5 @@
 -- `links::link::reuse` meets its contract. Assumes nothing.
-use Rattle.links.specs.Link.{reused}
+use Rattle.linking.specs.Link.{reused}
 use borrow.Author.Needs.{needs}
 use Rattle.links.proofs.link.reuse.Statement.{statement}
 use Rattle.links.proofs.link.reuse.Tie as tie

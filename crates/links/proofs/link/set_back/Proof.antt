@@ -1,5 +1,5 @@
 -- `links::link::set_back` meets its contract. Assumes nothing.
-use Rattle.links.specs.Link.{setBack}
+use Rattle.linking.specs.Link.{setBack}
 use borrow.Author.Needs.{needs}
 use Rattle.links.proofs.link.set_back.Statement.{statement}
 use Rattle.links.proofs.link.set_back.Tie as tie

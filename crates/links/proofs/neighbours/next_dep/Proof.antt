@@ -1,5 +1,5 @@
 -- `links::neighbours::next_dep` meets its contract. Assumes nothing.
-use Rattle.links.specs.Neighbours.{nextDep}
+use Rattle.linking.specs.Neighbours.{nextDep}
 use borrow.Author.Needs.{needs}
 use Rattle.links.proofs.neighbours.next_dep.Statement.{statement}
 use Rattle.links.proofs.neighbours.next_dep.Tie as tie

@@ -1,5 +1,5 @@
 -- `links::neighbours::set_beside` meets its contract. Assumes nothing.
-use Rattle.links.specs.Neighbours.{setBeside}
+use Rattle.linking.specs.Neighbours.{setBeside}
 use borrow.Author.Needs.{needs}
 use Rattle.links.proofs.neighbours.set_beside.Statement.{statement}
 use Rattle.links.proofs.neighbours.set_beside.Tie as tie

@@ -7,10 +7,10 @@ use mathlib.Core.List.{List}
 use native.Mathlib.Omega.{arith}
 use lib.ListN.{length}
 use Rattle.primitive.specs.Slots.{slotOf}
-use Rattle.links.specs.Free.{isLive, live}
-use Rattle.links.specs.Table.{Tab, tab}
-use Rattle.links.specs.Ring.{isMutable, reset, cutOut, purgedBy, disposedBy, unlinkedN, more}
-use Rattle.links.proofs.RingLaws.{not-true, not-false, cut-fewer, unlink-dead, unlink-shared, unlink-only, next-dead, next-live, more≤1, unwatched-dispose, unwatched-on, Walking, walk-start, walk-turn, walk-done}
+use Rattle.linking.specs.Free.{isLive, live}
+use Rattle.linking.specs.Table.{Tab, tab}
+use Rattle.linking.specs.Ring.{isMutable, reset, cutOut, purgedBy, disposedBy, unlinkedN, more}
+use Rattle.linking.proofs.RingLaws.{not-true, not-false, cut-fewer, unlink-dead, unlink-shared, unlink-only, next-dead, next-live, more≤1, unwatched-dispose, unwatched-on, Walking, walk-start, walk-turn, walk-done}
 use borrow.Author.Needs.{needs}
 use borrow.Fn.Kinds.{In}
 use borrow.Fn.PlainCycle.{Measures, is, falls, and}

@@ -1,5 +1,5 @@
 -- `links::ring::cut_out` meets its contract. Assumes nothing.
-use Rattle.links.specs.Ring.{cutOut, mended}
+use Rattle.linking.specs.Ring.{cutOut, mended}
 use borrow.Author.Needs.{needs}
 use Rattle.links.proofs.ring.cut_out.Statement.{statement}
 use Rattle.links.proofs.ring.cut_out.Tie as tie

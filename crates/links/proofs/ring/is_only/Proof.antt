@@ -1,5 +1,5 @@
 -- `links::ring::is_only` meets its contract. Assumes nothing.
-use Rattle.links.specs.Ring.{isOnly}
+use Rattle.linking.specs.Ring.{isOnly}
 use borrow.Author.Needs.{needs}
 use Rattle.links.proofs.ring.is_only.Statement.{statement}
 use Rattle.links.proofs.ring.is_only.Tie as tie

@@ -1,5 +1,5 @@
 -- `links::ring::reset` meets its contract. Assumes nothing.
-use Rattle.links.specs.Ring.{reset}
+use Rattle.linking.specs.Ring.{reset}
 use borrow.Author.Needs.{needs}
 use Rattle.links.proofs.ring.reset.Statement.{statement}
 use Rattle.links.proofs.ring.reset.Tie as tie

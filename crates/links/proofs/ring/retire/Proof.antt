@@ -1,5 +1,5 @@
 -- `links::ring::retire` meets its contract. Assumes nothing.
-use Rattle.links.specs.Ring.{retired}
+use Rattle.linking.specs.Ring.{retired}
 use borrow.Author.Needs.{needs}
 use Rattle.links.proofs.ring.retire.Statement.{statement}
 use Rattle.links.proofs.ring.retire.Tie as tie

@@ -1,6 +1,6 @@
 -- `links::unlink::dispose` meets its contract. Assumes nothing.
-use Rattle.links.specs.Ring.{disposed}
-use Rattle.links.proofs.FreeLaws.{live-le}
+use Rattle.linking.specs.Ring.{disposed}
+use Rattle.linking.proofs.FreeLaws.{live-le}
 use borrow.Author.Needs.{needs}
 use Rattle.links.proofs.unlink.dispose.Statement.{statement}
 use Rattle.links.proofs.unlink.dispose.Tie as tie

@@ -1,6 +1,6 @@
 -- `links::unlink::purge_deps` meets its contract. Assumes nothing.
-use Rattle.links.specs.Ring.{purged}
-use Rattle.links.proofs.FreeLaws.{live-le}
+use Rattle.linking.specs.Ring.{purged}
+use Rattle.linking.proofs.FreeLaws.{live-le}
 use borrow.Author.Needs.{needs}
 use Rattle.links.proofs.unlink.purge_deps.Statement.{statement}
 use Rattle.links.proofs.unlink.purge_deps.Tie as tie

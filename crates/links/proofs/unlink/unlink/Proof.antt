@@ -1,7 +1,7 @@
 -- `links::unlink::unlink` meets its contract. Assumes nothing.
 use mathlib.Core.Path.{ap₂}
-use Rattle.links.specs.Ring.{unlinked, out}
-use Rattle.links.proofs.FreeLaws.{live-le}
+use Rattle.linking.specs.Ring.{unlinked, out}
+use Rattle.linking.proofs.FreeLaws.{live-le}
 use borrow.Author.Needs.{needs}
 use Rattle.links.proofs.unlink.unlink.Statement.{statement}
 use Rattle.links.proofs.unlink.unlink.Tie as tie

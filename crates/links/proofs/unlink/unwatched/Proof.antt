@@ -1,6 +1,6 @@
 -- `links::unlink::unwatched` meets its contract. Assumes nothing.
-use Rattle.links.specs.Ring.{unwatched}
-use Rattle.links.proofs.FreeLaws.{live-le}
+use Rattle.linking.specs.Ring.{unwatched}
+use Rattle.linking.proofs.FreeLaws.{live-le}
 use borrow.Author.Needs.{needs}
 use Rattle.links.proofs.unlink.unwatched.Statement.{statement}
 use Rattle.links.proofs.unlink.unwatched.Tie as tie

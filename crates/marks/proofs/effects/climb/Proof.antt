@@ -2,9 +2,9 @@
 -- The measure is the budget. Assumes nothing.
 use mathlib.Core.Path.{_≡_, refl, sym, _∙_}
 use lib.ListN.{length}
-use Rattle.marks.specs.Notify.{climbed}
-use Rattle.marks.proofs.NotifyLaws.{climb-end, climb-none, climb-stop, climb-more}
-use Rattle.marks.proofs.Tests.{masked-zero}
+use Rattle.marking.specs.Notify.{climbed}
+use Rattle.marking.proofs.NotifyLaws.{climb-end, climb-none, climb-stop, climb-more}
+use Rattle.marking.proofs.Tests.{masked-zero}
 use borrow.Author.Needs.{needs}
 use Rattle.marks.proofs.effects.climb.Statement.{statement}
 use Rattle.marks.proofs.effects.climb.Tie as tie

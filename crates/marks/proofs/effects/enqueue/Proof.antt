@@ -1,5 +1,5 @@
 -- `marks::effects::enqueue` meets its contract. Assumes nothing.
-use Rattle.marks.specs.Notify.{queued}
+use Rattle.marking.specs.Notify.{queued}
 use borrow.Author.Needs.{needs}
 use Rattle.marks.proofs.effects.enqueue.Statement.{statement}
 use Rattle.marks.proofs.effects.enqueue.Tie as tie

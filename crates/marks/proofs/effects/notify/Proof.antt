@@ -1,5 +1,5 @@
 -- `marks::effects::notify` meets its contract. Assumes nothing.
-use Rattle.marks.specs.Notify.{notified}
+use Rattle.marking.specs.Notify.{notified}
 use borrow.Author.Needs.{needs}
 use Rattle.marks.proofs.effects.notify.Statement.{statement}
 use Rattle.marks.proofs.effects.notify.Tie as tie

@@ -1,6 +1,6 @@
 -- `marks::walks::below` meets its contract. Assumes nothing.
-use Rattle.marks.proofs.Tests.{masked-nonzero}
-use Rattle.marks.proofs.WalkLaws.{below-open, below-shut}
+use Rattle.marking.proofs.Tests.{masked-nonzero}
+use Rattle.marking.proofs.WalkLaws.{below-open, below-shut}
 use borrow.Author.Needs.{needs}
 use Rattle.marks.proofs.walks.below.Statement.{statement}
 use Rattle.marks.proofs.walks.below.Tie as tie

@@ -1,6 +1,6 @@
 -- `marks::walks::dirty` meets its contract. Assumes nothing.
-use Rattle.marks.proofs.Tests.{masked-same}
-use Rattle.marks.proofs.ShallowLaws.{dirty-not, dirty-wakes, dirty-rests}
+use Rattle.marking.proofs.Tests.{masked-same}
+use Rattle.marking.proofs.ShallowLaws.{dirty-not, dirty-wakes, dirty-rests}
 use borrow.Author.Needs.{needs}
 use Rattle.marks.proofs.walks.dirty.Statement.{statement}
 use Rattle.marks.proofs.walks.dirty.Tie as tie

@@ -1,8 +1,8 @@
 -- `marks::walks::is_valid_link` meets its contract. The loop's invariant: what is left of the walk answers as the whole. The measure is the budget.
 -- Assumes nothing.
 use mathlib.Core.Path.{_≡_, refl, sym, _∙_}
-use Rattle.marks.specs.Valid.{validFrom, validLink}
-use Rattle.marks.proofs.ValidLaws.{valid-end, valid-none, valid-here, valid-more}
+use Rattle.marking.specs.Valid.{validFrom, validLink}
+use Rattle.marking.proofs.ValidLaws.{valid-end, valid-none, valid-here, valid-more}
 use borrow.Author.Needs.{needs}
 use Rattle.marks.proofs.walks.is_valid_link.Statement.{statement}
 use Rattle.marks.proofs.walks.is_valid_link.Tie as tie

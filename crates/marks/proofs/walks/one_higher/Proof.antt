@@ -6,7 +6,7 @@ use native.Mathlib.Omega.{arith}
 use lib.ListN.{length, length-replicate}
 use borrow.Author.Needs.{needs}
 use Rattle.primitive.proofs.StackLaws.{len-room, len-full}
-use Rattle.marks.specs.Walks.{blank}
+use Rattle.marking.specs.Walks.{blank}
 use Rattle.marks.proofs.walks.one_higher.Statement.{statement}
 use Rattle.marks.proofs.walks.one_higher.Tie as tie
 

@@ -5,8 +5,8 @@ use mathlib.Core.List.{List}
 use Prim.Native.Nat.{ℕ, _-_}
 use lib.ListN.{length}
 use Rattle.primitive.specs.Stack.{pushed, pushedLen}
-use Rattle.marks.specs.Walks.{place, along, walked, blank, propagated}
-use Rattle.marks.proofs.WalkLaws.{down-push, down-flat, walk-end, turn-down, turn-flat, along-slot, along-none, push-nothing, back-nothing}
+use Rattle.marking.specs.Walks.{place, along, walked, blank, propagated}
+use Rattle.marking.proofs.WalkLaws.{down-push, down-flat, walk-end, turn-down, turn-flat, along-slot, along-none, push-nothing, back-nothing}
 use borrow.Author.Needs.{needs}
 use Rattle.marks.proofs.walks.propagate.Statement.{statement}
 use Rattle.marks.proofs.walks.propagate.Tie as tie

@@ -3,8 +3,8 @@
 use mathlib.Core.Path.{_≡_, refl, sym, ap, _∙_}
 use Prim.Native.Nat.{_-_}
 use lib.ListN.{length}
-use Rattle.marks.specs.Walks.{place, back, along, walked}
-use Rattle.marks.proofs.WalkLaws.{down-push, down-flat, walk-end, turn-down, turn-flat, along-slot, along-none, back-end, back-slot, back-none, pop-less}
+use Rattle.marking.specs.Walks.{place, back, along, walked}
+use Rattle.marking.proofs.WalkLaws.{down-push, down-flat, walk-end, turn-down, turn-flat, along-slot, along-none, back-end, back-slot, back-none, pop-less}
 use borrow.Author.Needs.{needs}
 use Rattle.marks.proofs.walks.propagate_on.Statement.{statement}
 use Rattle.marks.proofs.walks.propagate_on.Tie as tie

@@ -1,7 +1,7 @@
 -- `marks::walks::reach` meets its contract. Assumes nothing.
 use mathlib.Core.Path.{sym, _∙_}
-use Rattle.marks.proofs.Tests.{masked-nonzero}
-use Rattle.marks.proofs.VisitLaws.{reach-wakes, reach-rests}
+use Rattle.marking.proofs.Tests.{masked-nonzero}
+use Rattle.marking.proofs.VisitLaws.{reach-wakes, reach-rests}
 use borrow.Author.Needs.{needs}
 use Rattle.marks.proofs.walks.reach.Statement.{statement}
 use Rattle.marks.proofs.walks.reach.Tie as tie

@@ -2,8 +2,8 @@
 -- The measure is the budget. Assumes nothing.
 use mathlib.Core.Path.{_≡_, refl, sym, _∙_}
 use lib.ListN.{length}
-use Rattle.marks.specs.Shallow.{shallowFrom, shallow}
-use Rattle.marks.proofs.ShallowLaws.{shallow-end, shallow-none, shallow-more}
+use Rattle.marking.specs.Shallow.{shallowFrom, shallow}
+use Rattle.marking.proofs.ShallowLaws.{shallow-end, shallow-none, shallow-more}
 use borrow.Author.Needs.{needs}
 use Rattle.marks.proofs.walks.shallow_propagate.Statement.{statement}
 use Rattle.marks.proofs.walks.shallow_propagate.Tie as tie

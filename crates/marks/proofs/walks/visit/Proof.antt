@@ -3,9 +3,9 @@ use mathlib.Core.Path.{_≡_, refl, sym, ap, _∙_}
 use mathlib.Core.Bool.{true, false}
 use Prim.Native.Nat.{ℕ}
 use lib.Bits.{bitOr}
-use Rattle.marks.specs.Fields.{setFlags, recursedCheck, busy, changed, marked, lacks}
-use Rattle.marks.proofs.Tests.{masked-zero}
-use Rattle.marks.proofs.VisitLaws.{visit-clean, visit-marked, visit-recursed, visit-changed, visit-stray, visit-valid, skips, marks}
+use Rattle.marking.specs.Fields.{setFlags, recursedCheck, busy, changed, marked, lacks}
+use Rattle.marking.proofs.Tests.{masked-zero}
+use Rattle.marking.proofs.VisitLaws.{visit-clean, visit-marked, visit-recursed, visit-changed, visit-stray, visit-valid, skips, marks}
 use borrow.Author.Needs.{needs}
 use Rattle.marks.proofs.walks.visit.Statement.{statement}
 use Rattle.marks.proofs.walks.visit.Tie as tie

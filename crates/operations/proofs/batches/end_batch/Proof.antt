@@ -1,5 +1,5 @@
 -- `operations::batches::end_batch` meets its contract. Assumes nothing.
-use Rattle.operations.proofs.RunLaws.{end-none, end-last, end-inner}
+use Rattle.operating.proofs.RunLaws.{end-none, end-last, end-inner}
 use borrow.Author.Needs.{needs}
 use Rattle.operations.proofs.batches.end_batch.Statement.{statement}
 use Rattle.operations.proofs.batches.end_batch.Tie as tie

@@ -1,6 +1,6 @@
 -- `operations::batches::start_batch` meets its contract. Assumes nothing.
 use mathlib.Core.Path.{_∙_}
-use Rattle.operations.proofs.RunLaws.{start-more, start-most}
+use Rattle.operating.proofs.RunLaws.{start-more, start-most}
 use borrow.Author.Needs.{needs}
 use Rattle.operations.proofs.batches.start_batch.Statement.{statement}
 use Rattle.operations.proofs.batches.start_batch.Tie as tie

@@ -4,8 +4,8 @@ use Prim.Native.Nat.{_-_, _≤_}
 use native.Mathlib.Omega.{arith}
 use lib.ListN.{length, length-set}
 use borrow.Author.Needs.{needs}
-use Rattle.operations.specs.Emptying.{zeroed}
-use Rattle.operations.proofs.EmptyLaws.{zero-turn, zero-done}
+use Rattle.operating.specs.Emptying.{zeroed}
+use Rattle.operating.proofs.EmptyLaws.{zero-turn, zero-done}
 use Rattle.operations.proofs.emptying.clear.Statement.{statement}
 use Rattle.operations.proofs.emptying.clear.Tie as tie
 

@@ -5,8 +5,8 @@ use native.Mathlib.Omega.{arith}
 use lib.IntN.{pos}
 use lib.ListN.{length, length-set}
 use borrow.Author.Needs.{needs}
-use Rattle.operations.specs.Emptying.{zeroed}
-use Rattle.operations.proofs.EmptyLaws.{zero-turn, zero-done}
+use Rattle.operating.specs.Emptying.{zeroed}
+use Rattle.operating.proofs.EmptyLaws.{zero-turn, zero-done}
 use Rattle.operations.proofs.emptying.clear_signed.Statement.{statement}
 use Rattle.operations.proofs.emptying.clear_signed.Tie as tie
 

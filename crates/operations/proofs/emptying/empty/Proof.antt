@@ -1,6 +1,6 @@
 -- `operations::emptying::empty` meets its contract. Assumes nothing.
 use mathlib.Core.Path.{sym, _∙_}
-use Rattle.operations.proofs.EmptyLaws.{empty-done, empty-not}
+use Rattle.operating.proofs.EmptyLaws.{empty-done, empty-not}
 use borrow.Author.Needs.{needs}
 use Rattle.operations.proofs.emptying.empty.Statement.{statement}
 use Rattle.operations.proofs.emptying.empty.Tie as tie

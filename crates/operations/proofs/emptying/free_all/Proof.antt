@@ -3,8 +3,8 @@ use mathlib.Core.Path.{_≡_, refl, sym, _∙_}
 use Prim.Native.Nat.{_-_}
 use lib.ListN.{length}
 use borrow.Author.Needs.{needs}
-use Rattle.operations.specs.Emptying.{freed}
-use Rattle.operations.proofs.EmptyLaws.{free-turn, free-done}
+use Rattle.operating.specs.Emptying.{freed}
+use Rattle.operating.proofs.EmptyLaws.{free-turn, free-done}
 use Rattle.operations.proofs.emptying.free_all.Statement.{statement}
 use Rattle.operations.proofs.emptying.free_all.Tie as tie
 

@@ -1,5 +1,5 @@
 -- `operations::log::number_word` meets its contract. Assumes nothing.
-use Rattle.operations.proofs.RunLaws.{as-number}
+use Rattle.operating.proofs.RunLaws.{as-number}
 use borrow.Author.Needs.{needs}
 use Rattle.operations.proofs.log.number_word.Statement.{statement}
 use Rattle.operations.proofs.log.number_word.Tie as tie

@@ -3,7 +3,7 @@ use mathlib.Core.Path.{_≡_}
 use mir.Syntax.{w64}
 use mir.Val.{toZ, ofZ}
 use mir.Facts.{toZ-ofZ}
-use Rattle.operations.proofs.RunLaws.{no-row, no-rows, one-row, one-rows}
+use Rattle.operating.proofs.RunLaws.{no-row, no-rows, one-row, one-rows}
 use borrow.Author.Needs.{needs}
 use Rattle.operations.proofs.log.write_row.Statement.{statement}
 use Rattle.operations.proofs.log.write_row.Tie as tie

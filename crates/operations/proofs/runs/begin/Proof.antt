@@ -1,5 +1,5 @@
 -- `operations::runs::begin` meets its contract. Assumes nothing.
-use Rattle.operations.specs.Runs.{begunRun}
+use Rattle.operating.specs.Runs.{begunRun}
 use borrow.Author.Needs.{needs}
 use Rattle.operations.proofs.runs.begin.Statement.{statement}
 use Rattle.operations.proofs.runs.begin.Tie as tie

@@ -1,5 +1,5 @@
 -- `operations::runs::end_run` meets its contract. Assumes nothing.
-use Rattle.operations.specs.Runs.{endedRun}
+use Rattle.operating.specs.Runs.{endedRun}
 use borrow.Author.Needs.{needs}
 use Rattle.operations.proofs.runs.end_run.Statement.{statement}
 use Rattle.operations.proofs.runs.end_run.Tie as tie

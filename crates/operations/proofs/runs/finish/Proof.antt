@@ -1,5 +1,5 @@
 -- `operations::runs::finish` meets its contract. Assumes nothing.
-use Rattle.operations.specs.Runs.{finishedRun}
+use Rattle.operating.specs.Runs.{finishedRun}
 use borrow.Author.Needs.{needs}
 use Rattle.operations.proofs.runs.finish.Statement.{statement}
 use Rattle.operations.proofs.runs.finish.Tie as tie

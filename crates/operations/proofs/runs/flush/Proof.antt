@@ -7,10 +7,10 @@ use borrow.Author.Needs.{needs}
 use borrow.Rule.Slice.PartMut.{same-len-mid}
 use Rattle.primitive.specs.Words.{nodeRows}
 use Rattle.primitive.specs.Queue.{count}
-use Rattle.reads.specs.Tables.{state}
-use Rattle.operations.specs.Log.{Ran, ranTo}
-use Rattle.operations.specs.Runs.{flushedFrom, cleared, flushed}
-use Rattle.operations.proofs.RunLaws.{rest-of, put-rest, next-ran, count-low, ran-fits, flush-start, flush-step, flush-done}
+use Rattle.reading.specs.Tables.{state}
+use Rattle.operating.specs.Log.{Ran, ranTo}
+use Rattle.operating.specs.Runs.{flushedFrom, cleared, flushed}
+use Rattle.operating.proofs.RunLaws.{rest-of, put-rest, next-ran, count-low, ran-fits, flush-start, flush-step, flush-done}
 use Rattle.operations.proofs.runs.flush.Statement.{statement}
 use Rattle.operations.proofs.runs.flush.Tie as tie
 

@@ -1,5 +1,5 @@
 -- `operations::runs::must_run` meets its contract. Assumes nothing.
-use Rattle.operations.proofs.RunLaws.{must-dirty, must-check, must-not}
+use Rattle.operating.proofs.RunLaws.{must-dirty, must-check, must-not}
 use borrow.Author.Needs.{needs}
 use Rattle.operations.proofs.runs.must_run.Statement.{statement}
 use Rattle.operations.proofs.runs.must_run.Tie as tie

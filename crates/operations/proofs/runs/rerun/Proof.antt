@@ -1,5 +1,5 @@
 -- `operations::runs::rerun` meets its contract. Assumes nothing.
-use Rattle.operations.specs.Runs.{reran}
+use Rattle.operating.specs.Runs.{reran}
 use borrow.Author.Needs.{needs}
 use Rattle.operations.proofs.runs.rerun.Statement.{statement}
 use Rattle.operations.proofs.runs.rerun.Tie as tie

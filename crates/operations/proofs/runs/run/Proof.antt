@@ -1,5 +1,5 @@
 -- `operations::runs::run` meets its contract. Assumes nothing.
-use Rattle.operations.proofs.RunLaws.{ran-once, ran-not}
+use Rattle.operating.proofs.RunLaws.{ran-once, ran-not}
 use borrow.Author.Needs.{needs}
 use Rattle.operations.proofs.runs.run.Statement.{statement}
 use Rattle.operations.proofs.runs.run.Tie as tie

@@ -1,5 +1,5 @@
 -- `operations::writes::add` meets its contract. Assumes nothing.
-use Rattle.operations.proofs.RunLaws.{add-written}
+use Rattle.operating.proofs.RunLaws.{add-written}
 use borrow.Author.Needs.{needs}
 use Rattle.operations.proofs.writes.add.Statement.{statement}
 use Rattle.operations.proofs.writes.add.Tie as tie

@@ -2,10 +2,10 @@
 use mathlib.Core.Path.{_≡_, sym, ap, _∙_}
 use Rattle.primitive.specs.Slots.{slotOf}
 use Rattle.primitive.specs.declared.slots.Slot.the-variants.{At, Nothing}
-use Rattle.marks.specs.Fields.{setFlags, subs}
-use Rattle.marks.specs.Walks.{propagated}
-use Rattle.operations.specs.Writes.{stored, stale}
-use Rattle.operations.proofs.RunLaws.{write-same, write-alone, write-flushed, write-batched}
+use Rattle.marking.specs.Fields.{setFlags, subs}
+use Rattle.marking.specs.Walks.{propagated}
+use Rattle.operating.specs.Writes.{stored, stale}
+use Rattle.operating.proofs.RunLaws.{write-same, write-alone, write-flushed, write-batched}
 use borrow.Author.Needs.{needs}
 use Rattle.operations.proofs.writes.set.Statement.{statement}
 use Rattle.operations.proofs.writes.set.Tie as tie

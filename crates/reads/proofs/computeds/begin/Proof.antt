@@ -1,5 +1,5 @@
 -- `reads::computeds::begin` meets its contract. Assumes nothing.
-use Rattle.reads.specs.Steps.{begun}
+use Rattle.reading.specs.Steps.{begun}
 use borrow.Author.Needs.{needs}
 use Rattle.reads.proofs.computeds.begin.Statement.{statement}
 use Rattle.reads.proofs.computeds.begin.Tie as tie

@@ -1,5 +1,5 @@
 -- `reads::computeds::begin_first` meets its contract. Assumes nothing.
-use Rattle.reads.specs.Steps.{begunFirst}
+use Rattle.reading.specs.Steps.{begunFirst}
 use borrow.Author.Needs.{needs}
 use Rattle.reads.proofs.computeds.begin_first.Statement.{statement}
 use Rattle.reads.proofs.computeds.begin_first.Tie as tie

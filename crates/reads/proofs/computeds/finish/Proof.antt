@@ -1,5 +1,5 @@
 -- `reads::computeds::finish` meets its contract. Assumes nothing.
-use Rattle.reads.specs.Steps.{finished}
+use Rattle.reading.specs.Steps.{finished}
 use borrow.Author.Needs.{needs}
 use Rattle.reads.proofs.computeds.finish.Statement.{statement}
 use Rattle.reads.proofs.computeds.finish.Tie as tie

@@ -1,5 +1,5 @@
 -- `reads::computeds::finish_first` meets its contract. Assumes nothing.
-use Rattle.reads.specs.Steps.{finishedFirst}
+use Rattle.reading.specs.Steps.{finishedFirst}
 use borrow.Author.Needs.{needs}
 use Rattle.reads.proofs.computeds.finish_first.Statement.{statement}
 use Rattle.reads.proofs.computeds.finish_first.Tie as tie

@@ -1,5 +1,5 @@
 -- `reads::cycle::cycle` meets its contract. Assumes nothing.
-use Rattle.reads.specs.Tables.{cycleOf}
+use Rattle.reading.specs.Tables.{cycleOf}
 use borrow.Author.Needs.{needs}
 use Rattle.reads.proofs.cycle.cycle.Statement.{statement}
 use Rattle.reads.proofs.cycle.cycle.Tie as tie

@@ -1,5 +1,5 @@
 -- `reads::cycle::raise_cycle` meets its contract. Assumes nothing.
-use Rattle.reads.specs.Tables.{raised}
+use Rattle.reading.specs.Tables.{raised}
 use borrow.Author.Needs.{needs}
 use Rattle.reads.proofs.cycle.raise_cycle.Statement.{statement}
 use Rattle.reads.proofs.cycle.raise_cycle.Tie as tie

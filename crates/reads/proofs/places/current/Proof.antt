@@ -1,6 +1,6 @@
 -- `reads::places::current` meets its contract. Assumes nothing.
-use Rattle.reads.proofs.StepLaws.{current-out}
-use Rattle.reads.specs.Tables.{currentOf}
+use Rattle.reading.proofs.StepLaws.{current-out}
+use Rattle.reading.specs.Tables.{currentOf}
 use borrow.Author.Needs.{needs}
 use Rattle.reads.proofs.places.current.Statement.{statement}
 use Rattle.reads.proofs.places.current.Tie as tie

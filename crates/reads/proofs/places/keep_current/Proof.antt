@@ -1,6 +1,6 @@
 -- `reads::places::keep_current` meets its contract. Assumes nothing.
-use Rattle.reads.proofs.StepLaws.{set-current-out}
-use Rattle.reads.specs.Tables.{setCurrent}
+use Rattle.reading.proofs.StepLaws.{set-current-out}
+use Rattle.reading.specs.Tables.{setCurrent}
 use borrow.Author.Needs.{needs}
 use Rattle.reads.proofs.places.keep_current.Statement.{statement}
 use Rattle.reads.proofs.places.keep_current.Tie as tie

@@ -1,6 +1,6 @@
 -- `reads::places::keep_pending` meets its contract. Assumes nothing.
-use Rattle.reads.proofs.StepLaws.{set-pending-out}
-use Rattle.reads.specs.Tables.{setPending}
+use Rattle.reading.proofs.StepLaws.{set-pending-out}
+use Rattle.reading.specs.Tables.{setPending}
 use borrow.Author.Needs.{needs}
 use Rattle.reads.proofs.places.keep_pending.Statement.{statement}
 use Rattle.reads.proofs.places.keep_pending.Tie as tie

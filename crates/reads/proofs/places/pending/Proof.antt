@@ -1,6 +1,6 @@
 -- `reads::places::pending` meets its contract. Assumes nothing.
-use Rattle.reads.proofs.StepLaws.{pending-out}
-use Rattle.reads.specs.Tables.{pendingOf}
+use Rattle.reading.proofs.StepLaws.{pending-out}
+use Rattle.reading.specs.Tables.{pendingOf}
 use borrow.Author.Needs.{needs}
 use Rattle.reads.proofs.places.pending.Statement.{statement}
 use Rattle.reads.proofs.places.pending.Tie as tie

@@ -1,6 +1,6 @@
 -- `reads::rank::rank` meets its contract. Assumes nothing.
 use mathlib.Core.Path.{refl}
-use Rattle.reads.specs.Tables.{rankOf}
+use Rattle.reading.specs.Tables.{rankOf}
 use Rattle.reads.proofs.rank.rank.Statement.{statement}
 use Rattle.reads.proofs.rank.rank.Tie as tie
 

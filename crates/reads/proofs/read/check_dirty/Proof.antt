@@ -1,7 +1,7 @@
 -- `reads::read::check_dirty` meets its contract. Assumes nothing.
 use native.Mathlib.Omega.{arith}
-use Rattle.reads.specs.Tables.{rankOf}
-use Rattle.reads.specs.Read.{checked}
+use Rattle.reading.specs.Tables.{rankOf}
+use Rattle.reading.specs.Read.{checked}
 use borrow.Author.Needs.{needs}
 use Rattle.reads.proofs.read.check_dirty.Statement.{statement}
 use Rattle.reads.proofs.read.check_dirty.Tie as tie

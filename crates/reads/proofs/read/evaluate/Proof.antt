@@ -1,7 +1,7 @@
 -- `reads::read::evaluate` meets its contract. Assumes nothing.
 use native.Mathlib.Omega.{arith}
-use Rattle.reads.specs.Tables.{rankOf}
-use Rattle.reads.specs.Read.{evaluatedFor}
+use Rattle.reading.specs.Tables.{rankOf}
+use Rattle.reading.specs.Read.{evaluatedFor}
 use borrow.Author.Needs.{needs}
 use Rattle.reads.proofs.read.evaluate.Statement.{statement}
 use Rattle.reads.proofs.read.evaluate.Tie as tie

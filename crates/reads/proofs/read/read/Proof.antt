@@ -1,7 +1,7 @@
 -- `reads::read::read` meets its contract. Assumes nothing.
 use native.Mathlib.Omega.{arith}
-use Rattle.reads.specs.Tables.{rankOf}
-use Rattle.reads.specs.Read.{readOf, refreshed}
+use Rattle.reading.specs.Tables.{rankOf}
+use Rattle.reading.specs.Read.{readOf, refreshed}
 use borrow.Author.Needs.{needs}
 use Rattle.reads.proofs.read.read.Statement.{statement}
 use Rattle.reads.proofs.read.read.Tie as tie

@@ -6,9 +6,9 @@ use mir.Val.{toZ, ofZ}
 use Rattle.primitive.specs.Values.{value}
 use native.Mathlib.Omega.{arith}
 use lib.ListN.{length}
-use Rattle.reads.specs.Tables.{state, rankOf}
-use Rattle.reads.specs.Ring.{evaluatedBy, depsBy, checkedBy, ringN}
-use Rattle.reads.proofs.RingLaws.{lower-refresh, lower-check, worked-none, worked-constant, worked-read, worked-two, worked-choose, worked-bad, constant-inside, read-inside, two-inside, choose-inside, read-lower, read-not, two-worked, choose-third, choose-second, first-worked, update-worked, updated-signal, updated-computed, updated-other, refreshed-signal, refreshed-computed, refreshed-other, settle-changed, settle-same, pending-changed, pending-same, dependency-stale, dependency-unsure, dependency-clean, dirty-already, dirty-dependency, dirty-not, deps-out, deps-end, deps-changed, deps-same, renew-changed, renew-same, surely-changed, surely-same, computed-dirty, computed-pending, computed-first, computed-clean}
+use Rattle.reading.specs.Tables.{state, rankOf}
+use Rattle.reading.specs.Ring.{evaluatedBy, depsBy, checkedBy, ringN}
+use Rattle.reading.proofs.RingLaws.{lower-refresh, lower-check, worked-none, worked-constant, worked-read, worked-two, worked-choose, worked-bad, constant-inside, read-inside, two-inside, choose-inside, read-lower, read-not, two-worked, choose-third, choose-second, first-worked, update-worked, updated-signal, updated-computed, updated-other, refreshed-signal, refreshed-computed, refreshed-other, settle-changed, settle-same, pending-changed, pending-same, dependency-stale, dependency-unsure, dependency-clean, dirty-already, dirty-dependency, dirty-not, deps-out, deps-end, deps-changed, deps-same, renew-changed, renew-same, surely-changed, surely-same, computed-dirty, computed-pending, computed-first, computed-clean}
 use Prim.Native.Nat.{ℕ, _+_, _*_, _<_, _≤_}
 use borrow.Author.Needs.{needs}
 use borrow.Fn.Kinds.{In}

@@ -1,5 +1,5 @@
 -- `reads::ring::apply` meets its contract. Assumes nothing.
-use Rattle.formula.specs.Trees.{apply}
+use Rattle.trees.specs.Trees.{apply}
 use borrow.Author.Needs.{needs}
 use Rattle.reads.proofs.ring.apply.Statement.{statement}
 use Rattle.reads.proofs.ring.apply.Tie as tie

@@ -1,5 +1,5 @@
 -- `reads::signals::refresh_signal` meets its contract. Assumes nothing.
-use Rattle.reads.proofs.StepLaws.{signal-changed, signal-same, signal-clean}
+use Rattle.reading.proofs.StepLaws.{signal-changed, signal-same, signal-clean}
 use borrow.Author.Needs.{needs}
 use Rattle.reads.proofs.signals.refresh_signal.Statement.{statement}
 use Rattle.reads.proofs.signals.refresh_signal.Tie as tie

@@ -1,5 +1,5 @@
 -- `reads::signals::update_signal` meets its contract. Assumes nothing.
-use Rattle.reads.specs.Steps.{updatedSignal}
+use Rattle.reading.specs.Steps.{updatedSignal}
 use borrow.Author.Needs.{needs}
 use Rattle.reads.proofs.signals.update_signal.Statement.{statement}
 use Rattle.reads.proofs.signals.update_signal.Tie as tie

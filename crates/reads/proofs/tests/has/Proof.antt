@@ -1,5 +1,5 @@
 -- `reads::tests::has` meets its contract. Assumes nothing.
-use Rattle.marks.specs.Fields.{has}
+use Rattle.marking.specs.Fields.{has}
 use borrow.Author.Needs.{needs}
 use Rattle.reads.proofs.tests.has.Statement.{statement}
 use Rattle.reads.proofs.tests.has.Tie as tie

@@ -1,5 +1,5 @@
 -- `reads::tests::has_all` meets its contract. Assumes nothing.
-use Rattle.marks.specs.Fields.{hasOnly}
+use Rattle.marking.specs.Fields.{hasOnly}
 use borrow.Author.Needs.{needs}
 use Rattle.reads.proofs.tests.has_all.Statement.{statement}
 use Rattle.reads.proofs.tests.has_all.Tie as tie

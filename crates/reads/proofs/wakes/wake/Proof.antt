@@ -1,5 +1,5 @@
 -- `reads::wakes::wake` meets its contract. Assumes nothing.
-use Rattle.reads.specs.Steps.{woken}
+use Rattle.reading.specs.Steps.{woken}
 use borrow.Author.Needs.{needs}
 use Rattle.reads.proofs.wakes.wake.Statement.{statement}
 use Rattle.reads.proofs.wakes.wake.Tie as tie

@@ -1,5 +1,5 @@
 -- `reads::wakes::wake_others` meets its contract. Assumes nothing.
-use Rattle.reads.specs.Steps.{wokenOthers}
+use Rattle.reading.specs.Steps.{wokenOthers}
 use borrow.Author.Needs.{needs}
 use Rattle.reads.proofs.wakes.wake_others.Statement.{statement}
 use Rattle.reads.proofs.wakes.wake_others.Tie as tie

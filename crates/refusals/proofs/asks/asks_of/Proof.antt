@@ -1,6 +1,6 @@
 -- `refusals::asks::asks_of` meets its contract. Assumes nothing.
 use mathlib.Core.Path.{ap, _∙_}
-use Rattle.refusals.specs.Asked.{asked}
+use Rattle.refusing.specs.Asked.{asked}
 use borrow.Author.Needs.{needs}
 use Rattle.refusals.proofs.asks.asks_of.Statement.{statement}
 use Rattle.refusals.proofs.asks.asks_of.Tie as tie

@@ -1,7 +1,7 @@
 -- `refusals::asks::cells_from` meets its contract. Assumes nothing.
 use mathlib.Core.Path.{sym, ap, _∙_}
-use Rattle.refusals.specs.declared.asks.Asks.{Asks}
-use Rattle.refusals.proofs.MakingLaws.{from-none, from-some}
+use Rattle.refusing.specs.declared.asks.Asks.{Asks}
+use Rattle.refusing.proofs.MakingLaws.{from-none, from-some}
 use borrow.Author.Needs.{needs}
 use Rattle.refusals.proofs.asks.cells_from.Statement.{statement}
 use Rattle.refusals.proofs.asks.cells_from.Tie as tie

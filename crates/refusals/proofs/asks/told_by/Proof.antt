@@ -3,7 +3,7 @@ use mathlib.Core.Path.{_≡_}
 use mir.Syntax.{w64}
 use mir.Val.{toZ, ofZ}
 use mir.Facts.{toZ-ofZ}
-use Rattle.refusals.specs.Asked.{asked}
+use Rattle.refusing.specs.Asked.{asked}
 use borrow.Author.Needs.{needs}
 use Rattle.refusals.proofs.asks.told_by.Statement.{statement}
 use Rattle.refusals.proofs.asks.told_by.Tie as tie

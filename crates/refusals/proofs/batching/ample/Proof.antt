@@ -1,5 +1,5 @@
 -- `refusals::batching::ample` meets its contract. Assumes nothing.
-use Rattle.refusals.proofs.BatchingLaws.{ample-so, ample-many}
+use Rattle.refusing.proofs.BatchingLaws.{ample-so, ample-many}
 use borrow.Author.Needs.{needs}
 use Rattle.refusals.proofs.batching.ample.Statement.{statement}
 use Rattle.refusals.proofs.batching.ample.Tie as tie

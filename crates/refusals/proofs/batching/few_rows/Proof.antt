@@ -1,5 +1,5 @@
 -- `refusals::batching::few_rows` meets its contract. Assumes nothing.
-use Rattle.refusals.proofs.BatchingLaws.{few-by, not-few}
+use Rattle.refusing.proofs.BatchingLaws.{few-by, not-few}
 use borrow.Author.Needs.{needs}
 use Rattle.refusals.proofs.batching.few_rows.Statement.{statement}
 use Rattle.refusals.proofs.batching.few_rows.Tie as tie

@@ -1,5 +1,5 @@
 -- `refusals::batching::flush_rows` meets its contract. Assumes nothing.
-use Rattle.refusals.proofs.BatchingLaws.{flush-now, flush-not}
+use Rattle.refusing.proofs.BatchingLaws.{flush-now, flush-not}
 use borrow.Author.Needs.{needs}
 use Rattle.refusals.proofs.batching.flush_rows.Statement.{statement}
 use Rattle.refusals.proofs.batching.flush_rows.Tie as tie

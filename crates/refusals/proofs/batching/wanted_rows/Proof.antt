@@ -1,5 +1,5 @@
 -- `refusals::batching::wanted_rows` meets its contract. Assumes nothing.
-use Rattle.refusals.specs.Asked.{wanted}
+use Rattle.refusing.specs.Asked.{wanted}
 use borrow.Author.Needs.{needs}
 use Rattle.refusals.proofs.batching.wanted_rows.Statement.{statement}
 use Rattle.refusals.proofs.batching.wanted_rows.Tie as tie

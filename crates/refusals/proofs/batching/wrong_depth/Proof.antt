@@ -2,8 +2,8 @@
 use mathlib.Core.Path.{ap}
 use Prim.Native.Nat.{ℕ}
 use lib.Dec.{eqb, leb}
-use Rattle.refusals.specs.Commands.{told}
-use Rattle.refusals.proofs.CommandLaws.{is-told}
+use Rattle.refusing.specs.Commands.{told}
+use Rattle.refusing.proofs.CommandLaws.{is-told}
 use Rattle.meaning.specs.Refusals.{asksOf, wrongDepth}
 use borrow.Author.Needs.{needs}
 use Rattle.refusals.proofs.batching.wrong_depth.Statement.{statement}

@@ -5,8 +5,8 @@ use mir.Val.{toZ, ofZ}
 use mir.Facts.{toZ-ofZ}
 use lib.IntN.{pos}
 use lib.ListN.{getD}
-use Rattle.formula.specs.Cells.{naturalOf}
-use Rattle.refusals.proofs.CommandLaws.{code-none, code-1, code-2, code-3, code-4, code-5, code-6, code-7, code-8, code-9, code-10, code-past}
+use Rattle.trees.specs.Cells.{naturalOf}
+use Rattle.refusing.proofs.CommandLaws.{code-none, code-1, code-2, code-3, code-4, code-5, code-6, code-7, code-8, code-9, code-10, code-past}
 use borrow.Author.Needs.{needs}
 use Rattle.refusals.proofs.commands.command_of.Statement.{statement}
 use Rattle.refusals.proofs.commands.command_of.Tie as tie

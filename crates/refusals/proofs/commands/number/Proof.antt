@@ -1,5 +1,5 @@
 -- `refusals::commands::number` meets its contract. Assumes nothing.
-use Rattle.refusals.specs.Commands.{numberOf}
+use Rattle.refusing.specs.Commands.{numberOf}
 use borrow.Author.Needs.{needs}
 use Rattle.refusals.proofs.commands.number.Statement.{statement}
 use Rattle.refusals.proofs.commands.number.Tie as tie

@@ -2,9 +2,9 @@
 use mathlib.Core.Path.{ap, _∙_}
 use Prim.Native.Nat.{_≤_}
 use lib.ListN.{length}
-use Rattle.refusals.proofs.CommandLaws.{from-inside}
-use Rattle.refusals.proofs.MakingLaws.{part-is, bad-none, bad-some}
-use Rattle.formula.specs.Legal.{legalIn}
+use Rattle.refusing.proofs.CommandLaws.{from-inside}
+use Rattle.refusing.proofs.MakingLaws.{part-is, bad-none, bad-some}
+use Rattle.trees.specs.Legal.{legalIn}
 use borrow.Author.Needs.{needs}
 use Rattle.refusals.proofs.making.bad_formula.Statement.{statement}
 use Rattle.refusals.proofs.making.bad_formula.Tie as tie

@@ -1,6 +1,6 @@
 -- `refusals::making::making` meets its contract. Assumes nothing.
 use mathlib.Core.Path.{sym, _∙_}
-use Rattle.refusals.proofs.TableLaws.{making-5, making-6, making-7, making-0}
+use Rattle.refusing.proofs.TableLaws.{making-5, making-6, making-7, making-0}
 use borrow.Author.Needs.{needs}
 use Rattle.refusals.proofs.making.making.Statement.{statement}
 use Rattle.refusals.proofs.making.making.Tie as tie

@@ -3,9 +3,9 @@ use mathlib.Core.Path.{_≡_}
 use Prim.Native.Nat.{_<_, _≤_}
 use native.Mathlib.Omega.{arith}
 use lib.ListN.{length}
-use Rattle.counts.specs.Counts.{top}
-use Rattle.refusals.proofs.CommandLaws.{from-inside}
-use Rattle.refusals.proofs.MakingLaws.{part-is, room-none, lacks-nodes, lacks-cells, lacks-slots}
+use Rattle.counting.specs.Counts.{top}
+use Rattle.refusing.proofs.CommandLaws.{from-inside}
+use Rattle.refusing.proofs.MakingLaws.{part-is, room-none, lacks-nodes, lacks-cells, lacks-slots}
 use mir.Syntax.{w64}
 use mir.Val.{toZ, ofZ}
 use mir.Facts.{toZ-ofZ}

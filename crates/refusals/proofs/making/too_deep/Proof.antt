@@ -1,6 +1,6 @@
 -- `refusals::making::too_deep` meets its contract. Assumes nothing.
 use mir.Facts.{toZ-ofZ}
-use Rattle.refusals.proofs.MakingLaws.{deep-none, deep-some}
+use Rattle.refusing.proofs.MakingLaws.{deep-none, deep-some}
 use borrow.Author.Needs.{needs}
 use Rattle.refusals.proofs.making.too_deep.Statement.{statement}
 use Rattle.refusals.proofs.making.too_deep.Tie as tie

@@ -2,8 +2,8 @@
 use mathlib.Core.Path.{_≡_}
 use Prim.Native.Nat.{_≤_}
 use lib.ListN.{length}
-use Rattle.refusals.proofs.CommandLaws.{from-inside}
-use Rattle.refusals.proofs.MakingLaws.{part-is, high-computed, high-other}
+use Rattle.refusing.proofs.CommandLaws.{from-inside}
+use Rattle.refusing.proofs.MakingLaws.{part-is, high-computed, high-other}
 use mir.Syntax.{w64}
 use mir.Val.{toZ, ofZ}
 use mir.Facts.{toZ-ofZ}

@@ -1,6 +1,6 @@
 -- `refusals::making::wanted_slots` meets its contract. Assumes nothing.
 use mir.Facts.{toZ-ofZ}
-use Rattle.refusals.proofs.MakingLaws.{slots-none, slots-some}
+use Rattle.refusing.proofs.MakingLaws.{slots-none, slots-some}
 use borrow.Author.Needs.{needs}
 use Rattle.refusals.proofs.making.wanted_slots.Statement.{statement}
 use Rattle.refusals.proofs.making.wanted_slots.Tie as tie

@@ -4,9 +4,9 @@ use mir.Syntax.{w64}
 use mir.Val.{toZ, ofZ}
 use mir.Facts.{toZ-ofZ}
 use Rattle.meaning.specs.Refusals.{isGone}
-use Rattle.refusals.proofs.NamingLaws.{or-first, or-second}
-use Rattle.refusals.proofs.AskLaws.{gone-row}
-use Rattle.refusals.specs.Sight.{nodesAlone}
+use Rattle.refusing.proofs.NamingLaws.{or-first, or-second}
+use Rattle.refusing.proofs.AskLaws.{gone-row}
+use Rattle.refusing.specs.Sight.{nodesAlone}
 use borrow.Author.Needs.{needs}
 use Rattle.refusals.proofs.naming.gone_node.Statement.{statement}
 use Rattle.refusals.proofs.naming.gone_node.Tie as tie

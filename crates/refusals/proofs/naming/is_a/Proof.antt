@@ -1,7 +1,7 @@
 -- `refusals::naming::is_a` meets its contract. Assumes nothing.
 use mir.Facts.{toZ-ofZ}
-use Rattle.refusals.proofs.NamingLaws.{a-none, a-past, a-kind}
-use Rattle.refusals.specs.Asked.{taken}
+use Rattle.refusing.proofs.NamingLaws.{a-none, a-past, a-kind}
+use Rattle.refusing.specs.Asked.{taken}
 use borrow.Author.Needs.{needs}
 use Rattle.refusals.proofs.naming.is_a.Statement.{statement}
 use Rattle.refusals.proofs.naming.is_a.Tie as tie

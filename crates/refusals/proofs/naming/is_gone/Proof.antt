@@ -1,6 +1,6 @@
 -- `refusals::naming::is_gone` meets its contract. Assumes nothing.
 use mir.Facts.{toZ-ofZ}
-use Rattle.refusals.proofs.NamingLaws.{gone-none, gone-is}
+use Rattle.refusing.proofs.NamingLaws.{gone-none, gone-is}
 use borrow.Author.Needs.{needs}
 use Rattle.refusals.proofs.naming.is_gone.Statement.{statement}
 use Rattle.refusals.proofs.naming.is_gone.Tie as tie

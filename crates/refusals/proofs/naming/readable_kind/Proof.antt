@@ -1,5 +1,5 @@
 -- `refusals::naming::readable_kind` meets its contract. Assumes nothing.
-use Rattle.refusals.proofs.NamingLaws.{kind-first, kind-second}
+use Rattle.refusing.proofs.NamingLaws.{kind-first, kind-second}
 use Rattle.refusals.proofs.naming.readable_kind.Statement.{statement}
 use Rattle.refusals.proofs.naming.readable_kind.Tie as tie
 

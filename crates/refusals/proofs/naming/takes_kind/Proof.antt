@@ -1,7 +1,7 @@
 -- `refusals::naming::takes_kind` meets its contract. Assumes nothing.
 use mathlib.Core.Path.{ap}
 use mathlib.Core.Bool.{not}
-use Rattle.refusals.proofs.NamingLaws.{kind-signal}
+use Rattle.refusing.proofs.NamingLaws.{kind-signal}
 use borrow.Author.Needs.{needs}
 use Rattle.refusals.proofs.naming.takes_kind.Statement.{statement}
 use Rattle.refusals.proofs.naming.takes_kind.Tie as tie

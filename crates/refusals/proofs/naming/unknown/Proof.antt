@@ -1,5 +1,5 @@
 -- `refusals::naming::unknown` meets its contract. Assumes nothing.
-use Rattle.refusals.proofs.NamingLaws.{unknown-by}
+use Rattle.refusing.proofs.NamingLaws.{unknown-by}
 use borrow.Author.Needs.{needs}
 use Rattle.refusals.proofs.naming.unknown.Statement.{statement}
 use Rattle.refusals.proofs.naming.unknown.Tie as tie

@@ -3,9 +3,9 @@ use mathlib.Core.Path.{_≡_, _∙_}
 use mir.Syntax.{w64}
 use mir.Val.{toZ, ofZ}
 use mir.Facts.{toZ-ofZ}
-use Rattle.refusals.proofs.NamingLaws.{or-first, or-second}
-use Rattle.refusals.proofs.AskLaws.{wrong-row}
-use Rattle.refusals.specs.Sight.{nodesAlone}
+use Rattle.refusing.proofs.NamingLaws.{or-first, or-second}
+use Rattle.refusing.proofs.AskLaws.{wrong-row}
+use Rattle.refusing.specs.Sight.{nodesAlone}
 use borrow.Author.Needs.{needs}
 use Rattle.refusals.proofs.naming.wrong_node.Statement.{statement}
 use Rattle.refusals.proofs.naming.wrong_node.Tie as tie

@@ -1,6 +1,6 @@
 -- `refusals::naming::wrong_owner` meets its contract. Assumes nothing.
 use mir.Facts.{toZ-ofZ}
-use Rattle.refusals.proofs.NamingLaws.{owner-nobody, owner-somebody}
+use Rattle.refusing.proofs.NamingLaws.{owner-nobody, owner-somebody}
 use borrow.Author.Needs.{needs}
 use Rattle.refusals.proofs.naming.wrong_owner.Statement.{statement}
 use Rattle.refusals.proofs.naming.wrong_owner.Tie as tie

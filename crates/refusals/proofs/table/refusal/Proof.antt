@@ -1,6 +1,6 @@
 -- `refusals::table::refusal` meets its contract. Assumes nothing.
 use mathlib.Core.Path.{sym, _∙_}
-use Rattle.refusals.proofs.TableLaws.{rows-are, given-2, given-3, given-4, given-made, given-8, given-9, given-0}
+use Rattle.refusing.proofs.TableLaws.{rows-are, given-2, given-3, given-4, given-made, given-8, given-9, given-0}
 use borrow.Author.Needs.{needs}
 use Rattle.refusals.proofs.table.refusal.Statement.{statement}
 use Rattle.refusals.proofs.table.refusal.Tie as tie

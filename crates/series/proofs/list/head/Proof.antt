@@ -3,7 +3,7 @@ use mathlib.Core.Path.{_≡_}
 use mir.Syntax.{w64}
 use mir.Val.{toZ, ofZ}
 use mir.Facts.{toZ-ofZ}
-use Rattle.series.proofs.ListLaws.{none-left, is-below, is-inside, is-beyond}
+use Rattle.sequencing.proofs.ListLaws.{none-left, is-below, is-inside, is-beyond}
 use borrow.Author.Needs.{needs}
 use Rattle.series.proofs.list.head.Statement.{statement}
 use Rattle.series.proofs.list.head.Tie as tie

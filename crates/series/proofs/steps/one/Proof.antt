@@ -3,8 +3,8 @@ use mathlib.Core.Path.{_≡_, sym, _∙_}
 use mir.Syntax.{w64}
 use mir.Val.{toZ, ofZ}
 use mir.Facts.{toZ-ofZ}
-use Rattle.series.proofs.ListLaws.{words-inside}
-use Rattle.series.proofs.StepLaws.{at-end, at-bad, no-room, step-rows, step-done}
+use Rattle.sequencing.proofs.ListLaws.{words-inside}
+use Rattle.sequencing.proofs.StepLaws.{at-end, at-bad, no-room, step-rows, step-done}
 use borrow.Author.Needs.{needs}
 use Rattle.series.proofs.steps.one.Statement.{statement}
 use Rattle.series.proofs.steps.one.Tie as tie

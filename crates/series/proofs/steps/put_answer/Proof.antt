@@ -7,7 +7,7 @@ use native.Mathlib.Omega.{arith}
 use Prim.Native.Nat.{_<_}
 use lib.ListN.{length, set}
 use lib.Seq.{lt-length-set}
-use Rattle.series.proofs.StepLaws.{no-answer, whole-answer}
+use Rattle.sequencing.proofs.StepLaws.{no-answer, whole-answer}
 use borrow.Author.Needs.{needs}
 use Rattle.series.proofs.steps.put_answer.Statement.{statement}
 use Rattle.series.proofs.steps.put_answer.Tie as tie

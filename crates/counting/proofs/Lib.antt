@@ -1,0 +1,4 @@
+pub mod Sums
+pub mod Capacities
+pub mod DepthLaws
+mod Examples

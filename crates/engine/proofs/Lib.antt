@@ -1,2 +1,0 @@
-pub mod EngineLaws
-pub mod LentLog

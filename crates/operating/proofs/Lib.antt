@@ -1,0 +1,4 @@
+pub mod RunLaws
+pub mod EmptyLaws
+pub mod MakingLaws
+mod Examples

@@ -1,2 +1,0 @@
-pub mod RunLaws
-pub mod EmptyLaws

@@ -1,5 +1,0 @@
-pub mod Log
-pub mod Runs
-pub mod Batches
-pub mod Writes
-pub mod Emptying

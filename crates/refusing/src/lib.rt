@@ -1,0 +1,3 @@
+// Document 01, "Nine refusals", said over the words of tables and a command, and that they are those of `meaning`. Definitions and laws: the crate `refusals` has the code.
+pub mod asks;
+pub mod commands;

@@ -1,5 +1,0 @@
-pub mod ListLaws
-pub mod StepLaws
-pub mod SeriesLaws
-pub mod Whole
-pub mod Inside
