@@ -108,6 +108,142 @@ module _ (g : Given) (st : Static g) (p : ℕ → Value) (ρ : Records) (X : Set
     to-all : (j : ℕ) (s t : St) → Moves g p (Low g u) nobody u j s t → Moves g p (Low g u) everybody u j s t
     to-all j s t m = moves-wider g p (Low g u) (Low g u) nobody everybody u u j j s t (λ n z. z) (λ n z. tt) (omega arith) (omega arith) m
 
+    one : {b : ℕ} (j : ℕ) → In j (b ∷ []) → j ≡ b
+    one j (inl q) = q
+
+    -- u was not dirty in s: if it is in t, or a read of it changes from t to x, one has changed from s to x
+    came : (s t x : St) (j b : ℕ) → Inside g X s → Inside g X t → Frame g (Low g u) u s t → Moves g p (Low g u) nobody u j s t → Moves g p (Low g u) everybody u b t x → (g .kind u ≡ signal → ⊥) → s .fl u .dirty ≡ false
+        → (t .fl u .dirty ≡ true) ⊎ Changed g t x u → (s .fl u .dirty ≡ true) ⊎ Changed g s x u
+    came s t x j b i ti wide m₁ m₂ ns q (inl o) = inr (changed-before g p u s t x (m₁ .moved) (m₂ .moved) u (m₁ .soiled u (λ z. let a = z .1 in omega arith) ns q o))
+    came s t x j b i ti wide m₁ m₂ ns q (inr o) = inr (changed-after g p u s t x (m₁ .moved) (m₂ .moved) (Low g u) u (i .lists) (ti .lists) wide u (λ z. let a = z .1 in omega arith) o)
+
+    -- u is dirty already
+    soiled : (s : St) → Inv g p ρ X X s → s .fl u .dirty ≡ true → Checks 0 s u (ans s true)
+    soiled s v q = record {
+      stale = λ z. exempt g p ρ X X X (also X u) s (λ m y. y) (λ m y. inl y) v;
+      same = λ z. false≢true (sym z);
+      clean = λ z. false≢true (sym z);
+      changed = λ z. inl q;
+      moves = moves-same g p (Low g u) everybody u s;
+      round = moves-same g p (Near g st u) nobody u s;
+      calm = λ z. moves-same g p (Low g u) nobody u s;
+    }
+
+    -- a link l of u to d
+    module _ (s : St) (i : Inside g X s) (l d : ℕ) (lin : In l (deps s u)) (to : s .dep l ≡ d) where
+      lives : (s .live l ≡ true) × (s .sub l ≡ u)
+      lives = i .lists .deps-live l u lin
+
+      hd : d < g .size
+      hd = subst (λ (x : ℕ). x < g .size) to (i .lists .inside l (lives .0) .0)
+
+      gd : Goes g d u
+      gd = subst (λ (x : ℕ). Goes g x u) to (subst (Goes g (s .dep l)) (lives .1) (i .goes l (lives .0)))
+
+      nx : X d → ⊥
+      nx = apart d hd gd
+
+      has : In l (s .subs d)
+      has = subst (λ (x : ℕ). In l (s .subs x)) to (i .lists .live-in-subs l (lives .0))
+
+      -- to what can be read: d was asked, and answered a
+      module _ (r : readable (g .kind d) ≡ true) (a : Ans) (fd : Freshened g st X s d a) where
+        abbrev t : St
+        t = a .st
+
+        u-far : Low g (suc d) u → ⊥
+        u-far z = let y = z .1 in let x = gd .lower r in omega arith
+
+        low : (n : ℕ) → Low g (suc d) n → Low g u n
+        low n z = let y = z .1 in let x = gd .lower r in (z .0, omega arith)
+
+        wide : Frame g (Low g u) u s t
+        wide = let x = gd .lower r in frame-wider g (Low g (suc d)) (Low g u) d u s t low (omega arith) (fd .frame)
+
+        subs-same : t .subs d ≡ s .subs d
+        subs-same = fd .frame .subs d (λ z. omega arith)
+
+        steadily : steady (s .subs d) t d ≡ t
+        steadily = steady-same (s .subs d) t d subs-same (λ z. nil-none (s .subs d) l z has)
+
+        deps-same : deps t u ≡ deps s u
+        deps-same = let x = fd .frame .lists u u-far in ap₂ (λ (x z : List ℕ). x ++ z) (x .0) (x .1)
+
+        link-same : (j : ℕ) → In j (deps s u) → (t .dep j ≡ s .dep j) × (t .sub j ≡ s .sub j)
+        link-same j z = let w = i .lists .deps-live j u z in let x = fd .frame .links j (w .0) (λ x. u-far (subst (Low g (suc d)) (w .1) x)) in (x .1, x .2)
+
+        -- those that were looked at are clean still, and d now is
+        still-clean : (passed ls : List ℕ) → deps s u ≡ passed ++ l ∷ ls → ((j : ℕ) → In j passed → readable (g .kind (s .dep j)) ≡ true → s .fl (s .dep j) ≡ f1) → (j : ℕ) → In j (passed ++ l ∷ []) → readable (g .kind (t .dep j)) ≡ true → t .fl (t .dep j) ≡ f1
+        still-clean passed ls e pass j z b =
+            in-cases j passed (l ∷ []) z
+            (λ x. let jn : In j (deps s u) = subst (In j) (sym e) (in-left j passed (l ∷ ls) x) in
+            let jv = i .lists .deps-live j u jn in
+            let dj = link-same j jn .0 in
+            subst (λ (n : ℕ). t .fl n ≡ f1) (sym dj) (fd .frame .held j (jv .0) (λ n. u-far (subst (Low g (suc d)) (jv .1) n)) (pass j x (subst (λ (n : ℕ). readable (g .kind n) ≡ true) dj b))))
+            (λ x. subst (λ (n : ℕ). t .fl n ≡ f1) (sym (ap (t .dep) (one j x) ∙ link-same l lin .0 ∙ to)) (fd .clean))
+
+        new-at : (x : St) → (x .sto d ≡ s .sto d → ⊥) → Changed g s x u
+        new-at x nw = record { link = l; live = lives .0; to = lives .1; reads = subst (λ (n : ℕ). readable (g .kind n) ≡ true) (sym to) r; new = λ z. nw (subst (λ (n : ℕ). x .sto n ≡ s .sto n) to z) }
+
+        module _ (j : ℕ) (fine : Fine g p ρ X j s d a) where
+          -- d has another value, and other subscribers: they are marked
+          stale-many : a .yes ≡ true → Checks (j + 0) s u (ans (shallow t d) true)
+          stale-many y =
+              let x = gd .lower r in
+              let nw = differs j s d a fd fine y in
+              let m₁ = moves-wider g p (Low g (suc d)) (Low g u) nobody nobody (suc d) u j (j + 0) s (shallow t d) low (λ n w. w) (omega arith) (omega arith) (moves-shallow g p (Low g (suc d)) d (suc d) j s t d (i .lists) (fd .inside .lists) (fd .frame) (fine .moves) r nw) in
+              record {
+                stale = λ w. exempt g p ρ X X X (also X u) (shallow t d) (λ n x. x) (λ n x. inl x) (changed j s d a fd fine y);
+                same = λ w. false≢true (sym w);
+                clean = λ w. false≢true (sym w);
+                changed = λ w. inr (new-at (shallow t d) nw);
+                moves = to-all (j + 0) s (shallow t d) m₁;
+                round = to-near (j + 0) s (shallow t d) m₁;
+                calm = λ w. m₁;
+              }
+
+          -- and no other: l is the one link to d, before and after
+          alone : several (t .subs d) ≡ false → (k : ℕ) → In k (s .subs d) → k ≡ l
+          alone z k w = single (s .subs d) k l (subst (λ (x : List ℕ). several x ≡ false) subs-same z) w has
+
+          only-u : several (t .subs d) ≡ false → (m : ℕ) → union X (Touched t d (a .yes)) m → also X u m
+          only-u z m (inl w) = inl w
+          only-u z m (inr w) =
+              let k = w .1 in
+              let at : k .slot ≡ l = alone z (k .slot) (subst (In (k .slot)) subs-same (subst (λ (n : ℕ). In (k .slot) (t .subs n)) (k .to) (fd .inside .lists .live-in-subs (k .slot) (k .is-live)))) in
+              inr (sym (k .from) ∙ ap (t .sub) at ∙ link-same l lin .1 ∙ lives .1)
+
+          stale-alone : a .yes ≡ true → several (t .subs d) ≡ false → Checks (j + 0) s u (ans t true)
+          stale-alone y z =
+              let x = gd .lower r in
+              let nw = differs j s d a fd fine y in
+              record {
+                stale = λ w. exempt g p ρ X X (union X (Touched t d (a .yes))) (also X u) t (λ n x. x) (only-u z) (fine .keeps);
+                same = λ w. false≢true (sym w);
+                clean = λ w. false≢true (sym w);
+                changed = λ w. inr (new-at t nw);
+                moves = moves-wider g p (Low g (suc d)) (Low g u) (only d) everybody (suc d) u j (j + 0) s t low (λ n w. tt) (omega arith) (omega arith) (fine .moves);
+                round = moves-lift g p (Near g st u) u (j + 0) s t d
+                    (λ k kv h w. absurd (h (inr (ap (s .sub) (alone z k (subst (λ (n : ℕ). In k (s .subs n)) w (i .lists .live-in-subs k kv))) ∙ lives .1))))
+                    (moves-wider g p (Low g (suc d)) (Near g st u) (only d) (only d) (suc d) u j (j + 0) s t (λ n w. inl (low n w)) (λ n w. w) (omega arith) (omega arith) (fine .moves));
+                calm = λ w. false≢true (sym w);
+              }
+
+          -- d has the value that it had: what is found after it is found
+          goes-on : a .yes ≡ false → s .fl u .dirty ≡ false → (rest : ℕ) (b : Ans) → Checks rest t u b → Checks (j + rest) s u b
+          goes-on y q rest b w =
+              let lo = gd .lower r in
+              let m₁ : Moves g p (Low g u) nobody u j s t = moves-wider g p (Low g (suc d)) (Low g u) nobody nobody (suc d) u j j s t low (λ n w. w) (omega arith) (omega arith) (lifted j s d a fd fine i r nx y) in
+              record {
+                stale = w .stale;
+                same = w .same;
+                clean = λ z k kn h. subst (λ (n : ℕ). b .st .fl n ≡ f1) (link-same k kn .0) (w .clean z k (subst (In k) (sym deps-same) kn) (subst (λ (n : ℕ). readable (g .kind n) ≡ true) (sym (link-same k kn .0)) h));
+                changed = λ z. came s t (b .st) j rest i (fd .inside) wide m₁ (w .moves) (gd .of-signal) q (w .changed z);
+                moves = moves-then g p (Low g u) everybody u u j rest s t (b .st) (i .lists) (fd .inside .lists) wide (to-all j s t m₁) (w .moves);
+                round = moves-then g p (Near g st u) nobody u u j rest s t (b .st) (i .lists) (fd .inside .lists) (frame-wider g (Low g u) (Near g st u) u u s t (λ n z. inl z) (omega arith) wide) (to-near j s t m₁) (w .round);
+                calm = λ z. moves-then g p (Low g u) nobody u u j rest s t (b .st) (i .lists) (fd .inside .lists) wide m₁ (w .calm z);
+              }
+
     pub check-keeps : (ls passed : List ℕ) (s : St) → Inside g X s → Open g st X s → deps s u ≡ passed ++ ls → ((l : ℕ) → In l passed → readable (g .kind (s .dep l)) ≡ true → s .fl (s .dep l) ≡ f1) → Inv g p ρ X X s
         → s .cycle + inCheckOn fr c u s ls < end → Checks (inCheckOn fr c u s ls) s u (checkOn fr u s ls)
     unfolding checkOn inCheckOn
@@ -123,110 +259,29 @@ module _ (g : Given) (st : Static g) (p : ℕ → Value) (ρ : Records) (X : Set
     check-keeps (l ∷ ls) passed s i o e pass v =
         let P : Ans → ℕ → Type 0 = λ a b. s .cycle + b < end → Checks b s u a in
         let lin : In l (deps s u) = subst (In l) (sym e) (in-right l passed (l ∷ ls) (inl refl)) in
-        let lv = i .lists .deps-live l u lin in
         let d = s .dep l in
-        let hd : d < g .size = i .lists .inside l (lv .0) .0 in
-        let gd : Goes g d u = subst (Goes g d) (lv .1) (i .goes l (lv .0)) in
-        let nx = apart d hd gd in
-        let rd = i .rests d hd nx in
-        let has = i .lists .live-in-subs l (lv .0) in
+        let low : d < g .size = hd s i l d lin refl in
+        let out : X d → ⊥ = nx s i l d lin refl in
+        let rd = i .rests d low out in
         let next : deps s u ≡ (passed ++ l ∷ []) ++ ls = e ∙ sym (append-assoc passed (l ∷ []) ls) in
-        branches P (s .fl u .dirty)
-        (λ q fits. record {
-          stale = λ z. exempt g p ρ X X X (also X u) s (λ m y. y) (λ m y. inl y) v;
-          same = λ z. false≢true (sym z);
-          clean = λ z. false≢true (sym z);
-          changed = λ z. inl q;
-          moves = moves-same g p (Low g u) everybody u s;
-          round = moves-same g p (Near g st u) nobody u s;
-          calm = λ z. moves-same g p (Low g u) nobody u s;
-        })
+        branches P (s .fl u .dirty) (λ q fits. soiled s v q)
         (λ q. branches P (s .fl d .mutable)
         (λ m. let r : readable (g .kind d) ≡ true = moves-read g (s .queue) (s .dep) (s .sub) d _ _ _ _ _ rd m in
-        let lo = gd .lower r in
+        let lo = gd s i l d lin refl .lower r in
         let a = fr s d in
-        let abd : Above g st X d = λ n x y. let z = above n x y in omega arith in
-        let fd = frs X s d i o hd r abd (omega arith) in
-        let t = a .st in
-        let u-far : Low g (suc d) u → ⊥ = λ z. let y = z .1 in omega arith in
-        let st-same : steady (s .subs d) t d ≡ t = steady-same (s .subs d) t d (fd .frame .subs d (λ z. omega arith)) (λ z. nil-none (s .subs d) l z has) in
-        let wide : Frame g (Low g u) u s t = frame-wider g (Low g (suc d)) (Low g u) d u s t (λ n z. let y = z .1 in (z .0, omega arith)) (omega arith) (fd .frame) in
-        let low : (n : ℕ) → Low g (suc d) n → Low g u n = λ n z. let y = z .1 in (z .0, omega arith) in
-        subst (λ (x : St). P (elim (a .yes) [ true ↦ ans (elim (several (x .subs d)) [ true ↦ shallow x d | false ↦ x ]) true | false ↦ checkOn fr u x ls ]) (c s d + (elim (a .yes) [ true ↦ 0 | false ↦ inCheckOn fr c u x ls ]))) (sym st-same)
+        let fd = frs X s d i o low r (λ n x y. let z = above n x y in omega arith) (omega arith) in
+        subst (λ (x : St). P (elim (a .yes) [ true ↦ ans (elim (several (x .subs d)) [ true ↦ shallow x d | false ↦ x ]) true | false ↦ checkOn fr u x ls ]) (c s d + (elim (a .yes) [ true ↦ 0 | false ↦ inCheckOn fr c u x ls ]))) (sym (steadily s i l d lin refl r a fd))
         (branches (λ (x : Ans) (b : ℕ). P x (c s d + b)) (a .yes)
         (λ y fits. let fine = fines s d lo i o r v (omega arith) in
-        let nw = differs (c s d) s d a fd fine y in
-        branch (λ (x : St). Checks (c s d + 0) s u (ans x true)) (several (t .subs d))
-        (λ z. let m₁ = moves-wider g p (Low g (suc d)) (Low g u) nobody nobody (suc d) u (c s d) (c s d + 0) s (shallow t d) low (λ n w. w) (omega arith) (omega arith)
-        (moves-shallow g p (Low g (suc d)) d (suc d) (c s d) s t d (i .lists) (fd .inside .lists) (fd .frame) (fine .moves) r nw) in
-        record {
-          stale = λ w. exempt g p ρ X X X (also X u) (shallow t d) (λ n x. x) (λ n x. inl x) (changed (c s d) s d a fd fine y);
-          same = λ w. false≢true (sym w);
-          clean = λ w. false≢true (sym w);
-          changed = λ w. inr (record { link = l; live = lv .0; to = lv .1; reads = r; new = nw });
-          moves = to-all (c s d + 0) s (shallow t d) m₁;
-          round = to-near (c s d + 0) s (shallow t d) m₁;
-          calm = λ w. m₁;
-        })
-        (λ z. record {
-          stale = λ w. exempt g p ρ X X (union X (Touched t d (a .yes))) (also X u) t (λ n x. x) (only-u s t d l (a .yes) (lv .1) (fd .frame .links l (lv .0) (λ w. u-far (subst (Low g (suc d)) (lv .1) w)) .2) z (fd .frame .subs d (λ w. omega arith)) (fd .inside) has) (fine .keeps);
-          same = λ w. false≢true (sym w);
-          clean = λ w. false≢true (sym w);
-          changed = λ w. inr (record { link = l; live = lv .0; to = lv .1; reads = r; new = nw });
-          moves = moves-wider g p (Low g (suc d)) (Low g u) (only d) everybody (suc d) u (c s d) (c s d + 0) s t low (λ n w. tt) (omega arith) (omega arith) (fine .moves);
-          round = moves-lift g p (Near g st u) u (c s d + 0) s t d
-              (λ j jv h w. absurd (h (inr (ap (s .sub) (alone s t d l j z (fd .frame .subs d (λ w. omega arith)) (subst (λ (n : ℕ). In j (s .subs n)) w (i .lists .live-in-subs j jv)) has) ∙ lv .1))))
-              (moves-wider g p (Low g (suc d)) (Near g st u) (only d) (only d) (suc d) u (c s d) (c s d + 0) s t (λ n w. inl (low n w)) (λ n w. w) (omega arith) (omega arith) (fine .moves));
-          calm = λ w. false≢true (sym w);
-        }))
+        branch (λ (x : St). Checks (c s d + 0) s u (ans x true)) (several (a .st .subs d)) (λ z. stale-many s i l d lin refl r a fd (c s d) fine y) (λ z. stale-alone s i l d lin refl r a fd (c s d) fine y z))
         (λ y fits. let fine = fines s d lo i o r v (omega arith) in
         let sp = fine .moves .spent in
-        let lists = fd .frame .lists u u-far in
-        let deps-same : deps t u ≡ deps s u = ap₂ (λ (x z : List ℕ). x ++ z) (lists .0) (lists .1) in
-        let dep-l : t .dep l ≡ d = fd .frame .links l (lv .0) (λ z. u-far (subst (Low g (suc d)) (lv .1) z)) .1 in
-        let dep-at : (j : ℕ) → In j (deps s u) → t .dep j ≡ s .dep j = λ j z. let w = i .lists .deps-live j u z in fd .frame .links j (w .0) (λ x. u-far (subst (Low g (suc d)) (w .1) x)) .1 in
-        let m₁ : Moves g p (Low g u) nobody u (c s d) s t = moves-wider g p (Low g (suc d)) (Low g u) nobody nobody (suc d) u (c s d) (c s d) s t low (λ n w. w) (omega arith) (omega arith) (lifted (c s d) s d a fd fine i r nx y) in
-        let w = check-keeps ls (passed ++ l ∷ []) t (fd .inside) (open-frame g st X (Low g u) u s t i (fd .inside) wide off o) (deps-same ∙ next)
-        (λ j z b. in-cases j passed (l ∷ []) z
-        (λ x. let jn : In j (deps s u) = subst (In j) (sym e) (in-left j passed (l ∷ ls) x) in
-        let jv = i .lists .deps-live j u jn in
-        let dj = dep-at j jn in
-        subst (λ (n : ℕ). t .fl n ≡ f1) (sym dj) (fd .frame .held j (jv .0) (λ n. u-far (subst (Low g (suc d)) (jv .1) n)) (pass j x (subst (λ (n : ℕ). readable (g .kind n) ≡ true) dj b))))
-        (λ x. subst (λ (n : ℕ). t .fl n ≡ f1) (sym (ap (t .dep) (one j x) ∙ dep-l)) (fd .clean)))
-        (unchanged (c s d) s d a fd fine y) (omega arith) in
-        let rest = inCheckOn fr c u t ls in
-        let x = checkOn fr u t ls .st in
-        record {
-          stale = w .stale;
-          same = w .same;
-          clean = λ z j jn b. subst (λ (n : ℕ). x .fl n ≡ f1) (dep-at j jn) (w .clean z j (subst (In j) (sym deps-same) jn) (subst (λ (n : ℕ). readable (g .kind n) ≡ true) (sym (dep-at j jn)) b));
-          changed = λ z. came s t x (c s d) rest i (fd .inside) wide m₁ (w .moves) (gd .of-signal) q (w .changed z);
-          moves = moves-then g p (Low g u) everybody u u (c s d) rest s t x (i .lists) (fd .inside .lists) wide (to-all (c s d) s t m₁) (w .moves);
-          round = moves-then g p (Near g st u) nobody u u (c s d) rest s t x (i .lists) (fd .inside .lists) (frame-wider g (Low g u) (Near g st u) u u s t (λ n z. inl z) (omega arith) wide) (to-near (c s d) s t m₁) (w .round);
-          calm = λ z. moves-then g p (Low g u) nobody u u (c s d) rest s t x (i .lists) (fd .inside .lists) wide m₁ (w .calm z);
-        })))
-        (λ m. let own : readable (g .kind d) ≡ false = either (readable (g .kind d)) (λ r. clash (read-moves g (s .queue) (s .dep) (s .sub) d _ _ _ _ _ rd l has r) m) (λ r. r) in
+        goes-on s i l d lin refl r a fd (c s d) fine y q (inCheckOn fr c u (a .st) ls) (checkOn fr u (a .st) ls)
+        (check-keeps ls (passed ++ l ∷ []) (a .st) (fd .inside) (open-frame g st X (Low g u) u s (a .st) i (fd .inside) (wide s i l d lin refl r a fd) off o) (deps-same s i l d lin refl r a fd ∙ next) (still-clean s i l d lin refl r a fd passed ls e pass)
+        (unchanged (c s d) s d a fd fine y) (omega arith)))))
+        (λ m. let own : readable (g .kind d) ≡ false = either (readable (g .kind d)) (λ r. clash (read-moves g (s .queue) (s .dep) (s .sub) d _ _ _ _ _ rd l (has s i l d lin refl) r) m) (λ r. r) in
         check-keeps ls (passed ++ l ∷ []) s i o next
         (λ j z b. in-cases j passed (l ∷ []) z (λ w. pass j w b) (λ w. clash (subst (λ (n : ℕ). readable (g .kind (s .dep n)) ≡ true) (one j w) b) own)) v))
-      where
-        one : {b : ℕ} (j : ℕ) → In j (b ∷ []) → j ≡ b
-        one j (inl q) = q
-
-        -- d has one subscriber link, before and after
-        alone : (s t : St) (d l j : ℕ) → several (t .subs d) ≡ false → t .subs d ≡ s .subs d → In j (s .subs d) → In l (s .subs d) → j ≡ l
-        alone s t d l j z e a b = single (s .subs d) j l (subst (λ (x : List ℕ). several x ≡ false) e z) a b
-
-        only-u : (s t : St) (d l : ℕ) (y : Bool) → s .sub l ≡ u → t .sub l ≡ s .sub l → several (t .subs d) ≡ false → t .subs d ≡ s .subs d → Inside g X t → In l (s .subs d) → (m : ℕ) → union X (Touched t d y) m → also X u m
-        only-u s t d l y lu tu z e i has m (inl a) = inl a
-        only-u s t d l y lu tu z e i has m (inr w) =
-            let k = w .1 in
-            let at : k .slot ≡ l = alone s t d l (k .slot) z e (subst (In (k .slot)) e (subst (λ (n : ℕ). In (k .slot) (t .subs n)) (k .to) (i .lists .live-in-subs (k .slot) (k .is-live)))) has in
-            inr (sym (k .from) ∙ ap (t .sub) at ∙ tu ∙ lu)
-
-        came : (s t x : St) (j b : ℕ) → Inside g X s → Inside g X t → Frame g (Low g u) u s t → Moves g p (Low g u) nobody u j s t → Moves g p (Low g u) everybody u b t x → (g .kind u ≡ signal → ⊥) → s .fl u .dirty ≡ false
-            → (t .fl u .dirty ≡ true) ⊎ Changed g t x u → (s .fl u .dirty ≡ true) ⊎ Changed g s x u
-        came s t x j b i ti wide m₁ m₂ ns q (inl o) = inr (changed-before g p u s t x (m₁ .moved) (m₂ .moved) u (m₁ .soiled u (λ z. let a = z .1 in omega arith) ns q o))
-        came s t x j b i ti wide m₁ m₂ ns q (inr o) = inr (changed-after g p u s t x (m₁ .moved) (m₂ .moved) (Low g u) u (i .lists) (ti .lists) wide u (λ z. let a = z .1 in omega arith) o)
 
     pub check-fine : (s : St) → Inside g X s → Open g st X s → (deps s u ≡ [] → ⊥) → Inv g p ρ X X s → s .cycle + inCheck fr c s u < end → Checks (inCheck fr c s u) s u (checkW fr s u)
     unfolding checkW inCheck

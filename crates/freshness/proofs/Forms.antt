@@ -68,7 +68,7 @@ unfoldable pub firsts : List (ℕ × Value) → List ℕ
 firsts [] = []
 firsts (x ∷ xs) = x .0 ∷ firsts xs
 
-firsts-paired : (e : ℕ → Value) (ns : List ℕ) → firsts (paired e ns) ≡ ns
+pub firsts-paired : (e : ℕ → Value) (ns : List ℕ) → firsts (paired e ns) ≡ ns
 unfolding firsts paired
 firsts-paired e [] = refl
 firsts-paired e (n ∷ ns) = ap (λ (x : List ℕ). n ∷ x) (firsts-paired e ns)

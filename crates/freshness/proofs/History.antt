@@ -207,6 +207,7 @@ module _ (p₀ : Course) (so : Sound (as-ours p₀)) (c : Call) where
           formed = f .formed;
           agrees = agrees;
           records = λ m lm. let l = alive m lm in recorded-by t m (recorded (p .reads) rs m) (r .keeps .rec m (l .0) (l .1) (l .2) (λ z. z));
+          ours = refl;
         },
       )
 
@@ -232,6 +233,7 @@ module _ (p₀ : Course) (so : Sound (as-ours p₀)) (c : Call) where
             agrees = same;
             records = λ m lm. let z = ag .size in let w = lm .0 in let h : m < s .size = omega arith in
                 recorded-by s m (p .reads m) (so .inv .rec m h (ap (λ (kd : ℕ → Kind). kd m) (ag .kind) ∙ lm .1) (ag .gone m h ∙ lm .2) (λ z. z));
+            ours = refl;
           },
         ),
       )

@@ -1,7 +1,7 @@
--- Demand 3 leaves no freedom: what is asked of a call is kept by one reply, and an engine that keeps it on any history replies as document 01's does. Assumes nothing.
+-- Demand 3 leaves no freedom: what is asked of a call is kept by one reply, and an engine that keeps it on any history replies as document 01's does, and leaves its state. Assumes nothing.
 use mathlib.Core.Path.{_≡_, refl, sym, ap, ap₂, _∙_, subst}
 use mathlib.Core.Bool.{true}
-use mathlib.Core.List.{List, [], _∷_}
+use mathlib.Core.List.{List, [], _∷_, _++_}
 use mathlib.Core.Option.{Option, none, some}
 use Prim.Native.Nat.{ℕ, zero, suc, _+_, _<_, _^_}
 use native.Mathlib.Omega.{arith}
@@ -9,11 +9,12 @@ use Rattle.primitive.specs.declared.values.Value.{Value}
 use Rattle.trees.specs.Trees.{Tree, worth}
 use Rattle.meaning.specs.State.{St, Row, Room, capacities, empty}
 use Rattle.meaning.specs.Words.{Command, commandOf}
+use Rattle.meaning.specs.Commands.{Answer}
 use Rattle.meaning.proofs.Performed.{known}
 use Rattle.freshness.specs.Afresh.{afreshOf, readings}
 use Rattle.freshness.specs.Nodes.{Nodes, stripped, changed, ran}
 use Rattle.freshness.specs.History.{Call, Reply, seen, Engine, meant, inCall, replies, inCalls, Past, written, next, told, begun, Course, now, after, begin}
-use Rattle.freshness.specs.Right.{FreshRows, SameRuns, valuesNow, returned, Right, RightLog, Demand3}
+use Rattle.freshness.specs.Right.{FreshRows, SameRuns, valuesNow, returned, Right, RightLog, Held, Demand3}
 use Rattle.freshness.proofs.History.{many-is, ours-is, demand3}
 
 -- rows of the same effects, worked out afresh
@@ -134,17 +135,17 @@ one-log (c ∷ h) (a ∷ xs) (b ∷ ys) p A B few =
 
 -- an engine on its way, of which it is asked of any history
 abbrev Asked : Engine → Course → Type 0
-Asked E p = (h : List Call) (c : Call) → let x = after E p h in now E x c .past .many < 2 ^ 64 → Right (x .past) c (seen (E (x .st) c)) (now E x c .past)
+Asked E p = (h : List Call) (c : Call) → let x = after E p h in let a = E (x .st) c in let q = now E x c .past in q .many < 2 ^ 64 → Right (x .past) c (seen a) q × Held (a .st) q
 
 log-right : (E : Engine) (h : List Call) (p : Course) → Asked E p → RightLog (p .past) h (replies E (p .st) h)
 unfolding replies after RightLog
 log-right E [] p A = tt
-log-right E (c ∷ h) p A = (A [] c, log-right E h (now E p c) (λ h′ d. A (c ∷ h′) d))
+log-right E (c ∷ h) p A = (λ few. A [] c few .0, log-right E h (now E p c) (λ h′ d. A (c ∷ h′) d))
 
 -- document 01's replies are right
 pub meant-right : (r : Room) → capacities r ≡ true → (h : List Call) → RightLog (begun r) h (replies meant (empty r) h)
 unfolding Demand3
-meant-right r fits h = log-right meant h (begin r) (λ h′ c l. demand3 r fits h′ c l .0)
+meant-right r fits h = log-right meant h (begin r) (demand3 r fits)
 
 -- NO WEAKER ENGINE. Whoever gave them, and whatever it keeps: replies that are all right are document 01's, one by one, the same codes, values and rows with what their runs read. From empty tables of any capacities; so long as these calls make fewer than 2^64 evaluations.
 pub no-weaker-log : (r : Room) → capacities r ≡ true → (h : List Call) (xs : List Reply) → inCalls (empty r) h < 2 ^ 64 → RightLog (begun r) h xs → xs ≡ replies meant (empty r) h
@@ -153,4 +154,35 @@ no-weaker-log r fits h xs few A = one-log h xs (replies meant (empty r) h) (begu
 -- so an engine that keeps demand 3 replies to any calls as document 01's does
 pub no-weaker : (E : Engine) → Demand3 E → (r : Room) → capacities r ≡ true → (h : List Call) → inCalls (empty r) h < 2 ^ 64 → replies E (empty r) h ≡ replies meant (empty r) h
 unfolding Demand3
-no-weaker E d r fits h few = no-weaker-log r fits h (replies E (empty r) h) few (log-right E h (begin r) (λ h′ c l. d r fits h′ c l .0))
+no-weaker E d r fits h few = no-weaker-log r fits h (replies E (empty r) h) few (log-right E h (begin r) (d r fits))
+
+-- ---- and the state
+-- where an engine stands in document 01's state, it answers as document 01's does, and leaves what that leaves
+one-answer : (E : Engine) (p : Course) → Asked E p → Asked meant p → p .past .ours ≡ p .st → (c : Call) → p .past .many + inCall (p .past .ours) c < 2 ^ 64 → E (p .st) c ≡ meant (p .st) c
+unfolding after
+one-answer E p A B here c few =
+    let a = E (p .st) c in
+    let b = meant (p .st) c in
+    let m = told-many (p .past) c (seen a) in
+    let n = told-many (p .past) c (seen b) in
+    let x = A [] c (omega arith) in
+    let y = B [] c (omega arith) in
+    let same = one-right (p .past) c (seen a) (seen b) (x .0) (y .0) in
+    let st : a .st ≡ b .st = x .1 .ours ∙ told-ours (p .past) c (seen a) ∙ ap (λ (s : St). meant s c .st) here in
+    λ i. record { st = st i; code = same i .code; val = same i .val; rows = same i .rows }
+
+same-answers : (E : Engine) (h : List Call) (c : Call) (p : Course) → Asked E p → Asked meant p → p .past .ours ≡ p .st → upTo (p .past) (h ++ c ∷ []) < 2 ^ 64 → E (after E p h .st) c ≡ meant (after meant p h .st) c
+unfolding after inCalls
+same-answers E [] c p A B here few = one-answer E p A B here c (omega arith)
+same-answers E (d ∷ h) c p A B here few =
+    let b = meant (p .st) d in
+    let u = upTo-told (p .past) d (seen b) (h ++ c ∷ []) in
+    let step : now E p d ≡ now meant p d = ap (λ (a : Answer). let x : Course = record { st = a .st; past = told (p .past) d (seen a) } in x) (one-answer E p A B here d (omega arith)) in
+    let there : now meant p d .past .ours ≡ b .st = told-ours (p .past) d (seen b) ∙ ap (λ (s : St). meant s d .st) here in
+    let rest = same-answers E h c (now meant p d) (subst (Asked E) step (λ h′ k. A (d ∷ h′) k)) (λ h′ k. B (d ∷ h′) k) there (omega arith) in
+    subst (λ (x : Course). E (after E x h .st) c ≡ meant (after meant (now meant p d) h .st) c) (sym step) rest
+
+-- NO OTHER ENGINE. One that keeps demand 3 is document 01's: after any history it answers any call with the same code, value and rows, and leaves the same state. From empty tables of any capacities; so long as these calls make fewer than 2^64 evaluations.
+pub no-other-engine : (E : Engine) → Demand3 E → (r : Room) → capacities r ≡ true → (h : List Call) (c : Call) → inCalls (empty r) (h ++ c ∷ []) < 2 ^ 64 → E (after E (begin r) h .st) c ≡ meant (after meant (begin r) h .st) c
+unfolding Demand3
+no-other-engine E d r fits h c few = same-answers E h c (begin r) (d r fits) (demand3 r fits) refl (omega arith)

@@ -1,9 +1,9 @@
 -- Engines that are not document 01's, and fail demand 3: each on a history of at most eight calls. Assumes nothing.
-use mathlib.Core.Path.{_≡_, refl, sym, ap, subst}
+use mathlib.Core.Path.{_≡_, refl, sym, ap, _∙_}
 use mathlib.Core.Logic.{inl, inr}
-use mathlib.Core.Bool.{true, false, not, _&&_}
+use mathlib.Core.Bool.{Bool, true, false, not, _&&_}
 use mathlib.Core.List.{List, [], _∷_, _++_}
-use Prim.Native.Nat.{ℕ, zero, suc}
+use Prim.Native.Nat.{ℕ, zero, suc, pred}
 use native.Mathlib.Omega.{arith}
 use lib.Dec.{eqb}
 use lib.IntN.{pos, negsuc}
@@ -26,12 +26,13 @@ use Rattle.freshness.specs.Afresh.{afreshN, afreshOf, afresh, paired, re
 use Rattle.meaning.specs.Evaluations.{inFormula, inUpdate, inCheckOn, inCheck, inPending, countFirst, countFlushOn, countFresh, countFreshW, countNewEffect, countPerform, countRerun, countRun, countStore}
 use Rattle.freshness.specs.Evaluations.{inPerformAny, inAnswer}
 use Rattle.meaning.specs.State.{St, Room, Row, nothing}
-use Rattle.meaning.specs.Setters.{withDepth, withLive, withSubs}
+use Rattle.meaning.specs.Setters.{withDepth, withDone, withFree, withLive, withLog, withSto, withSubs, setDone, setLive, setSubs}
 use Rattle.freshness.specs.Nodes.{ownsN, changed, ran}
 use Rattle.freshness.specs.History.{Call, Reply, seen, Engine, meant, replies, written as lastWritten, next, after}
 use Rattle.freshness.specs.Right.{Demand3}
-use Rattle.meaning.proofs.Laws.{false≢true}
-use Rattle.freshness.proofs.Sound.{not-it}
+use Rattle.meaning.proofs.Laws.{false≢true, up-other, up-by}
+use Rattle.freshness.proofs.Forms.{firsts, firsts-paired}
+use Rattle.freshness.proofs.Sound.{not-it, and-first}
 use Rattle.freshness.proofs.Used.{room}
 
 -- signal 5; an effect that reads it; two writes to it; a read of it
@@ -84,6 +85,13 @@ chooses = record { rows = 4; words = pos 3 ∷ negsuc 0 ∷ pos 8 ∷ pos 0 ∷ 
 
 abbrev set0 : Call
 set0 = record { rows = 4; words = pos 5 ∷ pos 0 ∷ pos 0 ∷ [] }
+
+-- case 12: signal 0, a computed that reads it; an effect that reads the signal, the computed, and the signal again
+abbrev computed0 : Call
+computed0 = record { rows = 4; words = pos 2 ∷ pos 2 ∷ pos 0 ∷ [] }
+
+abbrev twice-0 : Call
+twice-0 = record { rows = 4; words = pos 3 ∷ negsuc 0 ∷ pos 3 ∷ pos 0 ∷ pos 2 ∷ pos 0 ∷ pos 3 ∷ pos 0 ∷ pos 2 ∷ pos 1 ∷ pos 2 ∷ pos 0 ∷ [] }
 
 -- ---- the engines: document 01's, with another answer
 abbrev answers : ℕ → Value → List Row → Answer → Answer
@@ -150,27 +158,117 @@ forgets s c = let a = meant s c in leaves (withLive (a .st) (λ l. false)) a
 abbrev clings : Engine
 clings s c = let a = meant s c in leaves (withLive (a .st) (λ l. true)) a
 
+-- ---- and with another state that no reply shows: what it keeps after a call is read back before the next
+pub record Hidden : Type 0 where
+  pub keep : St → St
+  pub back : St → St
+  pub again : (s : St) → back (keep s) ≡ s
+  pub begins : (r : Room) → back (empty r) ≡ empty r
+
+abbrev pub behind : Hidden → Engine
+behind o s c = let a = meant (o .back s) c in leaves (o .keep (a .st)) a
+
+behind-replies : (o : Hidden) (h : List Call) (s t : St) → o .back t ≡ s → replies (behind o) t h ≡ replies meant s h
+unfolding replies
+behind-replies o [] s t e = refl
+behind-replies o (c ∷ h) s t e =
+    ap (λ (x : St). seen (meant x c) ∷ replies (behind o) (o .keep (meant x c .st)) h) e
+    ∙ ap (λ (xs : List Reply). seen (meant s c) ∷ xs) (behind-replies o h (meant s c .st) (o .keep (meant s c .st)) (o .again (meant s c .st)))
+
+-- each of them replies as document 01's engine does, to any calls
+pub unseen : (o : Hidden) (r : Room) (h : List Call) → replies (behind o) (empty r) h ≡ replies meant (empty r) h
+unseen o r h = behind-replies o h (empty r) (empty r) (o .begins r)
+
+-- one place off
+abbrev off : {A : Type 0} → A → (ℕ → A) → ℕ → A
+off a f zero = a
+off a f (suc n) = f n
+
 -- keeps each list of subscribers one place off
-abbrev off : (ℕ → List ℕ) → ℕ → List ℕ
-off f zero = []
-off f (suc n) = f n
+abbrev pub off-subs : Hidden
+unfolding empty
+off-subs = record { keep = λ s. withSubs s (off [] (s .subs)); back = λ s. withSubs s (λ n. s .subs (suc n)); again = λ s. refl; begins = λ r. refl }
 
 abbrev unstrung : Engine
-unstrung s c = let a = meant (withSubs s (λ n. s .subs (suc n))) c in leaves (withSubs (a .st) (off (a .st .subs))) a
+unstrung = behind off-subs
 
--- no reply shows it
-unstrung-replies : (s : St) (h : List Call) → replies unstrung (withSubs s (off (s .subs))) h ≡ replies meant s h
-unfolding replies
-unstrung-replies s [] = refl
-unstrung-replies s (c ∷ h) = ap (λ (xs : List Reply). seen (meant s c) ∷ xs) (unstrung-replies (meant s c .st) h)
-
-off-none : (n : ℕ) → off (λ m. []) n ≡ []
-off-none zero = refl
-off-none (suc n) = refl
-
-pub unstrung-answers : (r : Room) (h : List Call) → replies unstrung (empty r) h ≡ replies meant (empty r) h
+-- keeps each stored value one place off
+abbrev pub off-values : Hidden
 unfolding empty
-unstrung-answers r h = subst (λ (f : ℕ → List ℕ). replies unstrung (withSubs (empty r) f) h ≡ replies meant (empty r) h) (λ i n. off-none n i) (unstrung-replies (empty r) h)
+off-values = record { keep = λ s. withSto s (off nothing (s .sto)); back = λ s. withSto s (λ n. s .sto (suc n)); again = λ s. refl; begins = λ r. refl }
+
+abbrev misplaced : Engine
+misplaced = behind off-values
+
+-- once it has a node, has room for one more than was lent
+abbrev withRoom : St → Room → St
+withRoom s x = record { room = x; size = s .size; used = s .used; kind = s .kind; form = s .form; owner = s .owner; gone = s .gone; level = s .level; fl = s .fl; sto = s .sto; pend = s .pend; done = s .done; rest = s .rest; subs = s .subs; live = s .live; dep = s .dep; sub = s .sub; ver = s .ver; free = s .free; queue = s .queue; depth = s .depth; cycle = s .cycle; log = s .log; stuck = s .stuck }
+
+abbrev wider : ℕ → Room → Room
+wider zero r = r
+wider (suc n) r = record { nodes = suc (r .nodes); slots = r .slots; cells = r .cells }
+
+abbrev narrower : ℕ → Room → Room
+narrower zero r = r
+narrower (suc n) r = record { nodes = pred (r .nodes); slots = r .slots; cells = r .cells }
+
+pub narrower-wider : (n : ℕ) (r : Room) → narrower n (wider n r) ≡ r
+narrower-wider zero r = refl
+narrower-wider (suc n) r = refl
+
+abbrev pub wide : Hidden
+unfolding empty
+wide = record { keep = λ s. withRoom s (wider (s .size) (s .room)); back = λ s. withRoom s (narrower (s .size) (s .room)); again = λ s. ap (withRoom s) (narrower-wider (s .size) (s .room)); begins = λ r. refl }
+
+abbrev roomy : Engine
+roomy = behind wide
+
+-- slot 3 is a second link of the pair of slot 0, as in case 12
+abbrev doubled : St → Bool
+doubled s = s .live 3 && (s .live 0 && (eqb (s .dep 3) (s .dep 0) && eqb (s .sub 3) (s .sub 0)))
+
+-- loses it: it leaves both lists, and its slot is free. What the lists were is put aside in the state's log, which no command reads
+abbrev aside : ℕ → List ℕ → Row
+aside n ls = record { who = n; worth = nothing; reads = paired (λ l. nothing) ls }
+
+abbrev lost : Bool → St → St
+lost true s =
+    let d = s .dep 3 in
+    let u = s .sub 3 in
+    withLog (withFree (setLive (setSubs (setDone s u (remove 3 (s .done u))) d (remove 3 (s .subs d))) 3 false) (3 ∷ s .free)) (aside 1 (s .done u) ∷ aside 0 (s .subs d) ∷ s .log)
+lost false s = withLog s (aside 0 [] ∷ s .log)
+
+abbrev but-first : List ℕ → List ℕ
+but-first [] = []
+but-first (x ∷ xs) = xs
+
+abbrev put-back : List (ℕ × Value) → List Row → St → St
+put-back ds [] s = s
+put-back ds (q ∷ rs) s = withLog (withFree (setLive (setSubs (setDone s (s .sub 3) (firsts ds)) (s .dep 3) (firsts (q .reads))) 3 true) (but-first (s .free))) rs
+
+abbrev found : List Row → St → St
+found [] s = s
+found (r ∷ rs) s = elim (r .who) [ zero ↦ withLog s rs | suc n ↦ put-back (r .reads) rs s ]
+
+up-back : {A : Type 0} (f : ℕ → A) (n : ℕ) (v w : A) → f n ≡ w → up (up f n v) n w ≡ f
+up-back f n v w e i m = up-by (up f n v) n w (λ x. x ≡ f m) m (λ z. sym e ∙ ap f (sym z)) (λ z. up-other f n v m z) i
+
+pub found-lost : (b : Bool) (s : St) → (b ≡ true → s .live 3 ≡ true) → found (lost b s .log) (lost b s) ≡ s
+found-lost false s h = refl
+found-lost true s h =
+    let d = s .dep 3 in
+    let u = s .sub 3 in
+    let done = up-back (s .done) u (remove 3 (s .done u)) (firsts (paired (λ l. nothing) (s .done u))) (sym (firsts-paired (λ l. nothing) (s .done u))) in
+    let subs = up-back (s .subs) d (remove 3 (s .subs d)) (firsts (paired (λ l. nothing) (s .subs d))) (sym (firsts-paired (λ l. nothing) (s .subs d))) in
+    let live = up-back (s .live) 3 false true (h refl) in
+    λ i. withLive (withSubs (withDone s (done i)) (subs i)) (live i)
+
+abbrev pub one-of-two : Hidden
+unfolding empty
+one-of-two = record { keep = λ s. lost (doubled s) s; back = λ s. found (s .log) s; again = λ s. found-lost (doubled s) s (and-first (s .live 3) _); begins = λ r. refl }
+
+abbrev forgets-second : Engine
+forgets-second = behind one-of-two
 
 longer : {C : Type 0} (r : Row) → [] ≡ r ∷ [] → C
 longer r e = let z = ap (λ (x : List Row). length x) e in absurd (omega arith)
@@ -181,7 +279,7 @@ turned-away v (inl e) = let z = e .0 in absurd (omega arith)
 turned-away v (inr (inl e)) = let z = e .0 in absurd (omega arith)
 turned-away v (inr (inr e)) = e
 
-pub none-is-right : (Demand3 refuses → ⊥) × (Demand3 reads-0 → ⊥) × (Demand3 mute → ⊥) × (Demand3 loud → ⊥) × (Demand3 settles-once → ⊥) × (Demand3 stores-nothing → ⊥) × (Demand3 deep → ⊥) × (Demand3 forgets → ⊥) × (Demand3 twice → ⊥) × (Demand3 turns → ⊥) × (Demand3 early → ⊥) × (Demand3 unstrung → ⊥) × (Demand3 clings → ⊥)
+pub none-is-right : (Demand3 refuses → ⊥) × (Demand3 reads-0 → ⊥) × (Demand3 mute → ⊥) × (Demand3 loud → ⊥) × (Demand3 settles-once → ⊥) × (Demand3 stores-nothing → ⊥) × (Demand3 deep → ⊥) × (Demand3 forgets → ⊥) × (Demand3 twice → ⊥) × (Demand3 turns → ⊥) × (Demand3 early → ⊥) × (Demand3 unstrung → ⊥) × (Demand3 clings → ⊥) × (Demand3 misplaced → ⊥) × (Demand3 roomy → ⊥) × (Demand3 forgets-second → ⊥)
 unfolding Demand3 sum difference minimum maximum less clamp same sameNumber isZero cellOf codes readOf bareOf apply written size names up below empty provided remove each renew spent insert link cut lastLink disposeW unwatchedW unlinkN chain calm effects notify mark prop soil wakes evalBy settleW firstW updComputed updSignal updW sameSlots steady checkOn checkW pendingW freshW fresh logged rerun run flushOn store tallest newSignal newComputed newScope newEffect noWord word wholeCells commands commandOf afterCells grown parse treeOf total reserve liveEffects asksOf isA unknown wrongNode goneNode allReadable badFormula tooHigh noRoom wrongDepth fewRows refusals first refusal perform performAny answer command recorded inFormula countFirst inUpdate inCheckOn inCheck inPending countFreshW countFresh countRerun countRun countFlushOn countStore countNewEffect countPerform inPerformAny inAnswer lastWritten next after afreshN afreshOf paired readings moved ownsN changed ran reads worth
 none-is-right = (
   λ d. let e : _≡_ {A = ℕ} 2 0 = d room refl [] signal5 (omega arith) .0 .code in absurd (omega arith),
@@ -198,6 +296,9 @@ none-is-right = (
   λ d. let e : _≡_ {A = ℕ} 3 2 = d room refl case9 ends (omega arith) .0 .order .0 in absurd (omega arith),
   λ d. d room refl (signal5 ∷ []) effect0 (omega arith) .1 .formed .lists .live-in-subs 0 refl,
   λ d. let x = d room refl (signal1 ∷ signal5 ∷ signal6 ∷ chooses ∷ []) set0 (omega arith) .1 .records 3 (omega arith, refl, refl) .read 1 refl refl refl in turned-away (x .0) (x .1),
+  λ d. let e : nothing ≡ value (pos 5) = ap (λ (s : St). s .sto 0) (d room refl [] signal5 (omega arith) .1 .ours) in false≢true (sym (ap isZero e)),
+  λ d. let e : _≡_ {A = ℕ} 17 16 = ap (λ (s : St). s .room .nodes) (d room refl [] signal5 (omega arith) .1 .ours) in absurd (omega arith),
+  λ d. let e : false ≡ true = ap (λ (s : St). s .live 3) (d room refl (signal0 ∷ computed0 ∷ []) twice-0 (omega arith) .1 .ours) in false≢true e,
 )
 
 -- ---- two that keep another state are seen by their rows too: after the turn and a write to what is no longer read

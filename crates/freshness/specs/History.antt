@@ -53,7 +53,7 @@ inCalls s (c ∷ cs) = inCall s c + inCalls (meant s c .st) cs
 
 -- ---- what has happened so far: the calls, and what was answered
 pub record Past : Type 0 where
-  pub ours : St  -- where document 01's engine stands after these calls: only stored values, evaluations, the refusal that is due and the order of the runs are read off it
+  pub ours : St  -- where document 01's engine stands after these calls: of replies only stored values, evaluations, the refusal that is due and the order of the runs are read off it; of states it is asked whole
   pub many : ℕ  -- evaluations
   pub nodes : Nodes
   pub depth : ℕ

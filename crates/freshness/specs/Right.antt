@@ -129,6 +129,8 @@ pub record Held (s : St) (p : Past) : Type 0 where
   pub agrees : Agrees s p
   -- 5: the record of each live effect is not evictable
   pub records : (e : ℕ) → LiveEffect (p .nodes) e → Recorded s e (p .reads e)
+  -- document 01's very state: no link, value or count of it is lost, also where no reply shows it
+  pub ours : s ≡ p .ours
 
 -- tables of any capacities; any history with fewer than 2 ^ 64 evaluations, and the call that follows it
 unfoldable pub Demand3 : Engine → Type 0

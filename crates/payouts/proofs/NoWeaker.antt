@@ -1,19 +1,25 @@
--- Demand 3 leaves no freedom on lent tables either: an engine that keeps it answers and logs as `command` does. Assumes nothing.
-use mathlib.Core.Path.{_≡_, refl, sym, ap₂, _∙_, subst}
+-- Demand 3 leaves no freedom on lent tables either: an engine that keeps it answers and logs as `command` does, and leaves tables of document 01's state. Assumes nothing.
+use mathlib.Core.Path.{_≡_, refl, sym, ap, ap₂, _∙_, subst}
 use mathlib.Core.Bool.{true}
 use mathlib.Core.List.{List, [], _∷_}
-use Prim.Native.Nat.{ℕ, _<_, _^_}
+use Prim.Native.Nat.{ℕ, _/_, _<_, _^_}
 use native.Mathlib.Omega.{arith}
 use lib.IntN.{ℤ}
+use lib.ListN.{length}
 use Rattle.counting.specs.Counts.{carryIn}
+use Rattle.counting.proofs.Capacities.{carried}
 use Rattle.refusing.specs.Sight.{roomIn}
+use Rattle.operating.specs.Log.{rowWords}
 use Rattle.operating.specs.Emptying.{emptying}
 use Rattle.commanding.specs.Command.{Answered}
-use Rattle.meaning.specs.State.{empty}
+use Rattle.meaning.specs.State.{St, Room, empty}
+use Rattle.meaning.proofs.Kept.{command-stays}
 use Rattle.freshness.specs.History.{Reply, Past, told, begun, inCalls}
-use Rattle.freshness.proofs.NoWeaker.{one-right, told-many, upTo, upTo-told}
-use Rattle.structure.specs.Histories.{Tables, cleared, left, Lent, answeredOn}
-use Rattle.payouts.specs.OnTables.{TableEngine, call, calls, Seen, seenOf, seenOn, Shows, RightOn, AllRight, Demand3On}
+use Rattle.freshness.proofs.NoWeaker.{one-right, told-ours, told-many, upTo, upTo-told}
+use Rattle.structure.specs.Rep.{Rep, Lengths}
+use Rattle.structure.specs.Histories.{Tables, cleared, left, Lent, answeredOn, meantOn, tablesAfter, stateAfter}
+use Rattle.structure.proofs.Histories.{history-same}
+use Rattle.payouts.specs.OnTables.{TableEngine, call, calls, Seen, seenOf, seenOn, leftOn, Stand, Shows, RightOn, AllRight, Demand3On}
 use Rattle.payouts.proofs.OfCommand.{demand3-of-command}
 
 -- one reply is right, whatever words show it, though what a run read is in no word
@@ -51,3 +57,44 @@ unfolding Demand3On
 no-weaker-on E d N L W C carry h few =
     let t = cleared (emptying N L W C) in
     alike E answeredOn h t t (begun (roomIn N L C)) (d N L W C carry h) (demand3-of-command N L W C carry h) (omega arith)
+
+-- ---- and the tables
+abbrev Represents : Tables → St → Type 0
+Represents t s = Rep (t .nodes) (t .links) (t .values) (t .cells) s
+
+stay-ours : (E : TableEngine) (h : List Lent) (t : Tables) (p : Past) → AllRight E p t h → upTo p (calls h) < 2 ^ 64 → Represents t (p .ours) → Represents (leftOn E t h) (stateAfter (p .ours) h)
+unfolding AllRight leftOn stateAfter inCalls
+stay-ours E [] t p A few o = o
+stay-ours E (c ∷ h) t p A few o =
+    let r = A .0 in
+    let q = told p (call c) r in
+    let e = upTo-told p (call c) r (calls h) in
+    let m = told-many p (call c) r in
+    let here = A .1 .held (omega arith) in
+    let there = subst (λ (s : St). Represents (left (E t c)) s) (here .held .ours) (here .represents) in
+    subst (λ (s : St). Represents (leftOn E (left (E t c)) h) (stateAfter s h)) (told-ours p (call c) r) (stay-ours E h (left (E t c)) q (A .2) (omega arith) there)
+
+-- a command leaves the room as it was
+room-stays : (h : List Lent) (s : St) → stateAfter s h .room ≡ s .room
+unfolding stateAfter
+room-stays [] s = refl
+room-stays (c ∷ h) s = room-stays h (meantOn s c .st) ∙ command-stays true s (length (c .0) / rowWords) (c .1) .room
+
+-- NO OTHER TABLES: those that an engine which keeps demand 3 leaves represent document 01's state after the same calls, and are as long as those that were lent.
+pub no-other-tables : (E : TableEngine) → Demand3On E → (N L : List ℕ) (W C : List ℤ) → carryIn N L W C ≡ true → (h : List Lent) → inCalls (empty (roomIn N L C)) (calls h) < 2 ^ 64
+    → Stand (leftOn E (cleared (emptying N L W C)) h) N L W C (stateAfter (empty (roomIn N L C)) h)
+unfolding Demand3On tablesAfter stateAfter empty
+no-other-tables E d N L W C carry h few =
+    let t = cleared (emptying N L W C) in
+    let u = leftOn E t h in
+    let r = roomIn N L C in
+    let o = stay-ours E h t (begun r) (d N L W C carry h) (omega arith) (history-same N L W C carry [] .represents) in
+    let long = subst (λ (x : Room). Lengths (u .nodes) (u .links) (u .values) (u .cells) x) (room-stays h (empty r)) (o .lengths) in
+    let lent = carried N L W C carry in
+    record {
+      represent = o;
+      of-nodes = long .of-nodes ∙ sym (lent .node-rows);
+      of-links = long .of-links ∙ sym (lent .link-rows);
+      of-values = long .of-values ∙ sym (lent .value-words);
+      of-cells = long .of-cells ∙ sym (lent .cell-words);
+    }

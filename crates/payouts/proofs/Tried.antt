@@ -1,11 +1,11 @@
--- The theorem used on a closed history of words, its premise computed: it is not empty. An engine whose run count is invented fails it. Assumes nothing.
+-- The theorem used on a closed history of words, its premise computed: it is not empty. An engine whose run count is invented fails it, and one whose tables grow. Assumes nothing.
 use mathlib.Core.Path.{_≡_, refl, ap, _∙_}
 use mathlib.Core.Bool.{true}
 use mathlib.Core.List.{List, [], _∷_, _++_}
 use Prim.Native.Nat.{ℕ, _+_, _*_, _<_, _^_}
 use native.Mathlib.Omega.{arith}
 use lib.IntN.{ℤ, pos, negsuc}
-use lib.ListN.{replicate, length, drop}
+use lib.ListN.{replicate, length, length-append, drop}
 use Rattle.primitive.specs.Values.{value, sum, difference, minimum, maximum, less, clamp, same, sameNumber, isZero}
 use Rattle.trees.specs.Cells.{cellOf, codes, readOf, bareOf}
 use Rattle.trees.specs.Trees.{apply, written, size, names}
@@ -31,9 +31,9 @@ use Rattle.freshness.specs.Right.{Right, RightLog}
 use Rattle.freshness.proofs.NoWeaker.{told-ours, told-many, no-weaker-log}
 use Rattle.structure.specs.Logged.{wordsOf}
 use Rattle.structure.specs.Histories.{Tables, cleared, left, Lent, answeredOn, tablesAfter}
-use Rattle.payouts.specs.OnTables.{TableEngine, call, calls, Seen, seenOn, Shows, HeldIn, AllRight, Demand3On}
+use Rattle.payouts.specs.OnTables.{TableEngine, call, calls, Seen, seenOn, leftOn, Shows, HeldIn, AllRight, Demand3On}
 use Rattle.payouts.proofs.OfCommand.{demand3-of-command}
-use Rattle.payouts.proofs.NoWeaker.{no-weaker-on}
+use Rattle.payouts.proofs.NoWeaker.{no-weaker-on, no-other-tables}
 
 -- two nodes, four link slots, two cells: words of any content, and then emptied
 abbrev N : List ℕ
@@ -132,4 +132,18 @@ unfolding seenOn inCalls
 not-invented d =
     let n = closed .0 in
     let e = ap firstRuns (no-weaker-on invents d N L W C carries (signal5 ∷ []) (omega arith)) in
+    absurd (omega arith)
+
+-- ---- an engine whose tables grow by a cell at each call
+abbrev grows : TableEngine
+grows t c = let a = answeredOn t c in answered (a .code) (a .value) (a .runs) (a .nodes) (a .links) (a .values) (a .cells ++ pos 0 ∷ pos 0 ∷ []) (a .log)
+
+pub not-grown : Demand3On grows → ⊥
+unfolding leftOn inCalls
+not-grown d =
+    let n = closed .0 in
+    let t = cleared (emptying N L W C) in
+    let e = no-other-tables grows d N L W C carries (signal5 ∷ []) (omega arith) .of-cells in
+    let f = no-other-tables answeredOn demand3-of-command N L W C carries (signal5 ∷ []) (omega arith) .of-cells in
+    let g = length-append (answeredOn t signal5 .cells) (pos 0 ∷ pos 0 ∷ []) in
     absurd (omega arith)

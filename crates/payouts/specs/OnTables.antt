@@ -45,13 +45,26 @@ unfoldable pub seenOn : TableEngine → Tables → List Lent → List Seen
 seenOn E t [] = []
 seenOn E t (c ∷ cs) = seenOf (E t c) ∷ seenOn E (left (E t c)) cs
 
+-- the tables after them
+unfoldable pub leftOn : TableEngine → Tables → List Lent → Tables
+leftOn E t [] = t
+leftOn E t (c ∷ cs) = leftOn E (left (E t c)) cs
+
+-- tables that represent the state s, as long as those that were lent
+pub record Stand (t : Tables) (N L : List ℕ) (W C : List ℤ) (s : St) : Type 0 where
+  pub represent : Rep (t .nodes) (t .links) (t .values) (t .cells) s
+  pub of-nodes : length (t .nodes) ≡ length N
+  pub of-links : length (t .links) ≡ length L
+  pub of-values : length (t .values) ≡ length W
+  pub of-cells : length (t .cells) ≡ length C
+
 -- the words of an answer show a reply: its code, its value, and its rows in the log l, two words each, effect and value. What a run read is in no word; `Right` says what it is
 pub record Shows (l : List ℤ) (a : Answered) (r : Reply) : Type 0 where
   pub code : a .code ≡ r .code
   pub value : a .value ≡ r .val .word
   pub runs : Logged l (r .rows) (a .log) (a .runs)
 
--- the tables represent a state that holds what was told
+-- the tables represent a state that holds what was told; it is document 01's, so their lengths stay too
 pub record HeldIn (t : Tables) (p : Past) : Type 0 where
   pub state : St
   pub represents : Rep (t .nodes) (t .links) (t .values) (t .cells) state
