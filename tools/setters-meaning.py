@@ -13,7 +13,7 @@ CHANGED = ['watching', 'dirty', 'pending']
 if sys.argv[1:] == ['flags']:
     print("""-- Document 01, "Flags and tables at rest": the flags that occur, by their byte, and flags with one bit changed. Written by tools/setters-meaning.py.
 use mathlib.Core.Bool.{Bool, true, false}
-use Rattle.primitive.specs.declared.flags.Named.{Named}""")
+use Rattle.flags.specs.declared.Named.{Named}""")
     for b in BYTES:
         print('\nabbrev pub f%d : Named\nf%d = %s' % (b, b, record((f, 'true' if b >> i & 1 else 'false') for i, f in enumerate(BITS))))
     for f in CHANGED:
@@ -29,8 +29,8 @@ use mathlib.Core.Bool.{Bool}
 use mathlib.Core.List.{List}
 use mathlib.Core.Option.{Option}
 use Prim.Native.Nat.{ℕ}
-use Rattle.primitive.specs.declared.flags.Named.{Named}
-use Rattle.primitive.specs.declared.values.Value.{Value}
+use Rattle.flags.specs.declared.Named.{Named}
+use Rattle.values.specs.declared.Value.{Value}
 use Rattle.formula.specs.Trees.{Tree}
 use Rattle.meaning.specs.State.{St, Kind, Row, up}
 """)

@@ -10,9 +10,9 @@ use lib.ListN.{length, take, drop, length-set, length-take, length-drop, length-
 use borrow.Author.Tests.{leb-true}
 use Rattle.primitive.specs.declared.slots.Slot.{Slot}
 use Rattle.primitive.specs.declared.slots.Slot.the-variants.{At, Nothing}
-use Rattle.primitive.specs.declared.values.Value.{Value}
-use Rattle.primitive.specs.Values.{same}
-use Rattle.primitive.specs.Queue.{count, entryAt}
+use Rattle.values.specs.declared.Value.{Value}
+use Rattle.values.specs.Values.{same}
+use Rattle.queue.specs.Queue.{count, entryAt}
 use Rattle.reading.specs.Tables.{State, pendingOf}
 use Rattle.operating.specs.Log.{Ran, ranTo, rowed, rowsIn, fitsRow}
 use Rattle.operating.specs.Runs.{mustRun, ran, ranNext, flushedFrom, cleared, flushed}

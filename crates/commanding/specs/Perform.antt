@@ -2,8 +2,8 @@
 use mathlib.Core.List.{List}
 use Prim.Native.Nat.{ℕ, zero, suc}
 use lib.IntN.{ℤ, pos, negsuc}
-use Rattle.primitive.specs.declared.values.Value.{Value}
-use Rattle.primitive.specs.Values.{value}
+use Rattle.values.specs.declared.Value.{Value}
+use Rattle.values.specs.Values.{value}
 use Rattle.linking.specs.Table.{tab}
 use Rattle.linking.specs.Ring.{disposed}
 use Rattle.reading.specs.Tables.{State, state}

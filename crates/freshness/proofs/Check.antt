@@ -5,8 +5,8 @@ use mathlib.Core.Bool.{Bool, true, false}
 use mathlib.Core.List.{List, [], _∷_, _++_, append-assoc, append-nil}
 use Prim.Native.Nat.{ℕ, suc, _+_, _≤_, _<_}
 use native.Mathlib.Omega.{arith}
-use Rattle.primitive.specs.declared.flags.Named.{Named}
-use Rattle.primitive.specs.declared.values.Value.{Value}
+use Rattle.flags.specs.declared.Named.{Named}
+use Rattle.values.specs.declared.Value.{Value}
 use Rattle.meaning.specs.State.{St, signal, readable, bare, deps, f1}
 use Rattle.meaning.specs.Links.{isNil, several}
 use Rattle.meaning.specs.Marks.{shallow}

@@ -4,7 +4,7 @@ use mathlib.Core.Bool.{true, false}
 use mathlib.Core.List.{List}
 use Prim.Native.Nat.{ℕ, zero, suc, _<_}
 use native.Mathlib.Omega.{arith}
-use Rattle.primitive.specs.declared.values.Value.{Value}
+use Rattle.values.specs.declared.Value.{Value}
 use Rattle.trees.specs.Trees.{reads, names}
 use Rattle.meaning.specs.State.{St, Kind, signal, computed, effect, scope, readable, unclean}
 use Rattle.meaning.specs.WellFormed.{In}

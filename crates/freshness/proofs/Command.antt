@@ -8,9 +8,9 @@ use native.Mathlib.Omega.{arith}
 use lib.Dec.{eqb}
 use lib.IntN.{pos}
 use borrow.Author.Tests.{not-true, eqb-true, eqb-false, eq-eqb, ne-eqb}
-use Rattle.primitive.specs.declared.flags.Named.{Named}
-use Rattle.primitive.specs.declared.values.Value.{Value}
-use Rattle.primitive.specs.Values.{value}
+use Rattle.flags.specs.declared.Named.{Named}
+use Rattle.values.specs.declared.Value.{Value}
+use Rattle.values.specs.Values.{value}
 use Rattle.trees.specs.Trees.{constant, names}
 use Rattle.meaning.specs.State.{St, Kind, signal, computed, effect, scope, Row, readable, f0, f1, f2, f6, nothing, up}
 use Rattle.meaning.specs.Setters.{withLog, withDepth}

@@ -5,10 +5,10 @@ use mathlib.Core.Bool.{Bool, true, false, not, _||_}
 use mathlib.Core.List.{List, [], _∷_}
 use Prim.Native.Nat.{ℕ, _<_}
 use borrow.Author.Tests.{not-true}
-use Rattle.primitive.specs.declared.flags.Named.{Named}
-use Rattle.primitive.specs.declared.values.Value.{Value}
-use Rattle.primitive.specs.Values.{same}
-use Rattle.primitive.proofs.ValueLaws.{same-yes, same-no}
+use Rattle.flags.specs.declared.Named.{Named}
+use Rattle.values.specs.declared.Value.{Value}
+use Rattle.values.specs.Values.{same}
+use Rattle.values.proofs.ValueLaws.{same-yes, same-no}
 use Rattle.meaning.specs.State.{St, signal, effect, readable, unclean}
 use Rattle.meaning.specs.WellFormed.{In}
 use Rattle.freshness.specs.Afresh.{moved}

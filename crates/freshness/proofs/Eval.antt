@@ -6,8 +6,8 @@ use mathlib.Core.List.{List, [], _∷_, _++_, append-assoc, append-nil}
 use Prim.Native.Nat.{ℕ, _+_, _≤_, _<_}
 use native.Mathlib.Omega.{arith}
 use lib.ListN.{length, length-append}
-use Rattle.primitive.specs.declared.values.Value.{Value}
-use Rattle.primitive.specs.Values.{isZero}
+use Rattle.values.specs.declared.Value.{Value}
+use Rattle.values.specs.Values.{isZero}
 use Rattle.trees.specs.Trees.{Tree, constant, read, two, choose, apply, chosen, worth, reads, names}
 use Rattle.meaning.specs.State.{St}
 use Rattle.meaning.specs.Reads.{Out, evalBy}

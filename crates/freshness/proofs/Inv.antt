@@ -5,8 +5,8 @@ use mathlib.Core.Logic.{_⊎_}
 use mathlib.Core.Bool.{Bool, true, false}
 use mathlib.Core.List.{List}
 use Prim.Native.Nat.{ℕ, _≤_, _<_}
-use Rattle.primitive.specs.declared.flags.Named.{Named}
-use Rattle.primitive.specs.declared.values.Value.{Value}
+use Rattle.flags.specs.declared.Named.{Named}
+use Rattle.values.specs.declared.Value.{Value}
 use Rattle.trees.specs.Trees.{Tree, worth, reads}
 use Rattle.meaning.specs.State.{St, Kind, signal, computed, effect, Row, readable, unclean}
 use Rattle.meaning.specs.Setters.{withQueue, withDepth, withLog, withStuck}

@@ -6,8 +6,8 @@ use mathlib.Core.List.{[], _∷_}
 use Prim.Native.Nat.{ℕ, zero, suc}
 use native.Mathlib.Omega.{arith}
 use lib.IntN.{pos}
-use Rattle.primitive.proofs.ValueLaws.{yes-same}
-use Rattle.primitive.specs.Values.{value, sum, difference, minimum, maximum, less, clamp, same, sameNumber, isZero}
+use Rattle.values.proofs.ValueLaws.{yes-same}
+use Rattle.values.specs.Values.{value, sum, difference, minimum, maximum, less, clamp, same, sameNumber, isZero}
 use Rattle.trees.specs.Cells.{cellOf, codes, readOf, bareOf}
 use Rattle.trees.specs.Trees.{apply, worth, reads, written, size, names}
 use Rattle.meaning.specs.State.{up, below, empty}

@@ -2,7 +2,7 @@
 use mathlib.Core.Path.{_≡_, refl, sym, subst}
 use Prim.Native.Nat.{ℕ, zero, suc, _<_}
 use native.Mathlib.Omega.{arith}
-use Rattle.primitive.specs.declared.values.Value.{Value}
+use Rattle.values.specs.declared.Value.{Value}
 use Rattle.trees.specs.Trees.{Tree, worth, names}
 use Rattle.meaning.specs.State.{Kind, signal, computed, effect, scope}
 use Rattle.meaning.specs.WellFormed.{In}

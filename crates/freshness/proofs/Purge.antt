@@ -5,8 +5,8 @@ use mathlib.Core.Bool.{Bool, true, false}
 use mathlib.Core.List.{List, [], _++_, append-nil}
 use Prim.Native.Nat.{ℕ, _<_}
 use native.Mathlib.Omega.{arith}
-use Rattle.primitive.specs.declared.flags.Named.{Named}
-use Rattle.primitive.specs.declared.values.Value.{Value}
+use Rattle.flags.specs.declared.Named.{Named}
+use Rattle.values.specs.declared.Value.{Value}
 use Rattle.meaning.specs.State.{St, Kind, signal, computed, effect, scope, readable, unclean, deps, f0, f17, up}
 use Rattle.meaning.specs.Links.{cut, purge, dispose}
 use Rattle.freshness.specs.Afresh.{readings}

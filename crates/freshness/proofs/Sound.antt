@@ -8,7 +8,7 @@ use native.Mathlib.Omega.{arith}
 use lib.Dec.{eqb}
 use lib.IntN.{ℤ}
 use borrow.Author.Tests.{eq-eqb}
-use Rattle.primitive.specs.declared.values.Value.{Value}
+use Rattle.values.specs.declared.Value.{Value}
 use Rattle.meaning.specs.State.{St, effect, Row, f2, nothing, up}
 use Rattle.meaning.specs.Setters.{setFl}
 use Rattle.meaning.specs.Reads.{evaluate}

@@ -6,10 +6,10 @@ use mathlib.Core.Bool.{Bool, true, false}
 use mathlib.Core.List.{List, [], _++_, append-nil}
 use Prim.Native.Nat.{ℕ, zero, suc, _+_, _≤_, _<_}
 use native.Mathlib.Omega.{arith}
-use Rattle.primitive.specs.declared.flags.Named.{Named}
-use Rattle.primitive.specs.declared.values.Value.{Value}
-use Rattle.primitive.specs.Values.{same}
-use Rattle.primitive.proofs.ValueLaws.{same-yes}
+use Rattle.flags.specs.declared.Named.{Named}
+use Rattle.values.specs.declared.Value.{Value}
+use Rattle.values.specs.Values.{same}
+use Rattle.values.proofs.ValueLaws.{same-yes}
 use Rattle.meaning.specs.State.{St, signal, effect, Row, readable, aSignal, unclean, f2, f17, up}
 use Rattle.meaning.specs.Setters.{setFl, setPend}
 use Rattle.meaning.specs.Links.{isNil}

@@ -8,9 +8,9 @@ use native.Mathlib.Omega.{arith}
 use lib.Dec.{eqb}
 use lib.ListN.{length}
 use borrow.Author.Tests.{eqb-true, eqb-false}
-use Rattle.primitive.specs.declared.flags.Named.{Named}
-use Rattle.primitive.specs.declared.values.Value.{Value}
-use Rattle.primitive.specs.Values.{same}
+use Rattle.flags.specs.declared.Named.{Named}
+use Rattle.values.specs.declared.Value.{Value}
+use Rattle.values.specs.Values.{same}
 use Rattle.trees.specs.Trees.{Tree, reads}
 use Rattle.meaning.specs.State.{St, Kind, signal, computed, effect, scope, readable, unclean, bare, f0, f1, f5, raised, up}
 use Rattle.meaning.specs.Setters.{setFl, setSto, withCycle, withDone, withRest}

@@ -4,7 +4,7 @@ use mathlib.Core.List.{List, [], _∷_}
 use Prim.Native.Nat.{ℕ}
 use native.Mathlib.Omega.{arith}
 use lib.IntN.{ℤ, pos, negsuc}
-use Rattle.primitive.specs.Values.{sum, difference, minimum, maximum, less, clamp, same, sameNumber, isZero}
+use Rattle.values.specs.Values.{sum, difference, minimum, maximum, less, clamp, same, sameNumber, isZero}
 use Rattle.trees.specs.Cells.{cellOf, codes, readOf, bareOf}
 use Rattle.trees.specs.Trees.{apply, written, size, names}
 use Rattle.meaning.specs.State.{up, below, empty}

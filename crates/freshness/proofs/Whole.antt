@@ -7,8 +7,8 @@ use Prim.Native.Nat.{ℕ, zero, suc, _+_, _≤_, _<_, _^_}
 use native.Mathlib.Omega.{arith}
 use lib.Dec.{eqb}
 use borrow.Author.Tests.{eqb-true, eqb-false}
-use Rattle.primitive.specs.declared.flags.Named.{Named}
-use Rattle.primitive.specs.declared.values.Value.{Value}
+use Rattle.flags.specs.declared.Named.{Named}
+use Rattle.values.specs.declared.Value.{Value}
 use Rattle.trees.specs.Trees.{reads}
 use Rattle.meaning.specs.State.{St, Kind, signal, computed, effect, scope, readable, unclean, bare, deps, f1, f17, withPending, raised, up}
 use Rattle.meaning.specs.Setters.{setFl}

@@ -8,9 +8,9 @@ use native.Mathlib.Omega.{arith}
 use lib.Dec.{eqb}
 use lib.IntN.{pos, negsuc}
 use lib.ListN.{length}
-use Rattle.primitive.specs.declared.values.Value.{Value}
-use Rattle.primitive.proofs.ValueLaws.{yes-same}
-use Rattle.primitive.specs.Values.{value, sum, difference, minimum, maximum, less, clamp, same, sameNumber, isZero}
+use Rattle.values.specs.declared.Value.{Value}
+use Rattle.values.proofs.ValueLaws.{yes-same}
+use Rattle.values.specs.Values.{value, sum, difference, minimum, maximum, less, clamp, same, sameNumber, isZero}
 use Rattle.trees.specs.Cells.{cellOf, codes, readOf, bareOf}
 use Rattle.trees.specs.Trees.{apply, worth, reads, written, size, names}
 use Rattle.meaning.specs.State.{up, below, empty}

@@ -4,8 +4,8 @@ use mathlib.Core.Logic.{_⊎_}
 use mathlib.Core.Bool.{Bool, false, not, _||_}
 use mathlib.Core.List.{List, [], _∷_}
 use Prim.Native.Nat.{ℕ, zero, suc}
-use Rattle.primitive.specs.declared.values.Value.{Value}
-use Rattle.primitive.specs.Values.{same}
+use Rattle.values.specs.declared.Value.{Value}
+use Rattle.values.specs.Values.{same}
 use Rattle.trees.specs.Trees.{Tree, worth, reads}
 use Rattle.meaning.specs.State.{St, Kind, signal, computed, effect, scope, Row, up}
 

@@ -4,7 +4,7 @@ use mathlib.Core.List.{List, []}
 use mathlib.Core.Option.{Option, none, some}
 use Prim.Native.Nat.{ℕ, zero, suc}
 use lib.IntN.{ℤ}
-use Rattle.primitive.specs.declared.values.Value.{Value}
+use Rattle.values.specs.declared.Value.{Value}
 use Rattle.trees.specs.Trees.{Tree}
 use Rattle.meaning.specs.State.{St}
 use Rattle.meaning.specs.Setters.{withLog}

@@ -4,8 +4,8 @@ use mathlib.Core.List.{List, [], _∷_}
 use mathlib.Core.Option.{Option, none, some}
 use Prim.Native.Nat.{ℕ, zero, suc, _+_, pred}
 use lib.IntN.{ℤ}
-use Rattle.primitive.specs.declared.values.Value.{Value}
-use Rattle.primitive.specs.Values.{value, sum}
+use Rattle.values.specs.declared.Value.{Value}
+use Rattle.values.specs.Values.{value, sum}
 use Rattle.meaning.specs.State.{St, Room, Row, nothing, up, empty}
 use Rattle.meaning.specs.Words.{Command, makeSignal, makeComputed, makeEffect, makeScope, setTo, addTo, readOf, disposeOf, batchStart, batchEnd, commandOf, nodeOf}
 use Rattle.meaning.specs.Refusals.{sightOf, refusal}

@@ -6,8 +6,8 @@ use mathlib.Core.List.{List, [], _∷_}
 use mathlib.Core.Option.{some}
 use Prim.Native.Nat.{ℕ, _<_, _^_}
 use lib.IntN.{ℤ, pos}
-use Rattle.primitive.specs.declared.values.Value.{Value}
-use Rattle.primitive.specs.Values.{value}
+use Rattle.values.specs.declared.Value.{Value}
+use Rattle.values.specs.Values.{value}
 use Rattle.trees.specs.Trees.{Tree, worth}
 use Rattle.meaning.specs.State.{St, effect, signal, Room, capacities, Row, readable, nothing}
 use Rattle.meaning.specs.WellFormed.{WellFormed}

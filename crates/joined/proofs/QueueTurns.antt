@@ -7,7 +7,7 @@ use native.Mathlib.Omega.{arith}
 use native.Mathlib.Numerals.{add-one}
 use lib.ListN.{getD, set}
 use borrow.Author.Tests.{eq-eqb, ne-eqb}
-use Rattle.primitive.specs.Queue.{count, entryAt, entries, queueOf}
+use Rattle.queue.specs.Queue.{count, entryAt, entries, queueOf}
 use Rattle.lists.specs.Once.{spend, scan}
 use Rattle.lists.specs.declared.Rest.{Rest}
 use Rattle.lists.specs.declared.Rest.the-variants.{Left, Bad}

@@ -2,7 +2,6 @@
 use crate::named::SEEN;
 use counts::room;
 use lists::Rest;
-use primitive::queue;
 use primitive::rows::DEPTH;
 use primitive::rows::EFFECT;
 use primitive::rows::FLAGS;
@@ -14,7 +13,7 @@ use primitive::words;
 ghost use mathlib.Core.Path.{_≡_};
 ghost use Rattle.lists.specs.Sum.{bit, count};
 ghost use Rattle.lists.specs.Once.{spend};
-ghost use Rattle.primitive.specs.Queue.{queueOf};
+ghost use Rattle.queue.specs.Queue.{queueOf};
 ghost use Rattle.counting.specs.Counts.{countedIn};
 ghost use Rattle.resting.specs.Queued.{waitsOn, mayWait, lives, due, scanned, idle, queuedIn};
 

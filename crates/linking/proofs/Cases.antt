@@ -3,7 +3,7 @@ use mathlib.Core.Path.{_≡_, refl}
 use mathlib.Core.List.{List, [], _∷_}
 use Prim.Native.Nat.{ℕ, zero, suc}
 use lib.ListN.{replicate, getD}
-use Rattle.primitive.specs.Flags.{bit}
+use Rattle.flags.specs.Flags.{bit}
 use Rattle.primitive.specs.Rows.{hasField, field, setField}
 use Rattle.primitive.specs.Slots.{slotOf}
 use Rattle.primitive.specs.declared.slots.Slot.{Slot}

@@ -4,7 +4,7 @@ use mathlib.Core.Path.{_≡_}
 use mathlib.Core.Bool.{Bool, true, false}
 use mathlib.Core.List.{List}
 use lib.Dec.{eqb}
-use Rattle.primitive.specs.Flags.{bit}
+use Rattle.flags.specs.Flags.{bit}
 use Rattle.primitive.specs.Slots.{slotOf}
 use Rattle.primitive.specs.declared.slots.Slot.{Slot}
 use Rattle.primitive.specs.declared.slots.Slot.the-variants.{At, Nothing}

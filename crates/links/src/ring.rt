@@ -2,7 +2,7 @@
 // say what is left for every bound on the live links; the file unlink.rt says it plainly.
 use crate::free;
 use crate::neighbours;
-use primitive::flags::Flags;
+use flags::Flags;
 use primitive::rows::DEP;
 use primitive::rows::DEPS;
 use primitive::rows::DEPS_TAIL;

@@ -1,5 +1,6 @@
 // The making of nodes. A new node has the next number, and its formula the next cells. After the constructors of Signal, Computed, Effect and EffectScope in lib.rs.
 use counts::depths::depth_under;
+use flags::Flags;
 use formula::scans::height;
 use formula::scans::read_cells;
 use links::link::link;
@@ -7,7 +8,6 @@ use operating::making::Sort;
 use operations::log::write_row;
 use operations::runs::RUNNING;
 use operations::runs::end_run;
-use primitive::flags::Flags;
 use primitive::rows::CELLS;
 use primitive::rows::COMPUTED;
 use primitive::rows::COUNT;
@@ -29,11 +29,11 @@ use primitive::rows::SUBS_TAIL;
 use primitive::rows::USED;
 use primitive::slots;
 use primitive::slots::Slot;
-use primitive::values::Value;
-use primitive::version::Version;
 use primitive::words;
 use reads::places;
 use reads::read::evaluate;
+use values::Value;
+use version::Version;
 ghost use mathlib.Core.Path.{_≡_};
 ghost use mathlib.Core.List.{List};
 ghost use Prim.Native.Nat.{ℕ, _+_};

@@ -5,7 +5,7 @@ use mathlib.Core.Bool.{Bool, true, false}
 use Prim.Native.Nat.{ℕ, _<_}
 use native.Mathlib.Omega.{arith}
 use lib.Bits.{bitOr}
-use Rattle.primitive.proofs.FlagLaws.{every, every-at}
+use Rattle.flags.proofs.FlagLaws.{every, every-at}
 use Rattle.marking.specs.Fields.{pending, busy, changed, marked, lacks}
 use Rattle.marking.specs.Visits.{visitOf}
 use Rattle.marking.specs.Visits.Visit.{Skip, Mark}

@@ -4,9 +4,9 @@ use mathlib.Core.Path.{_≡_, refl}
 use mathlib.Core.Bool.{true, false}
 use mathlib.Core.List.{List, [], _∷_}
 use Prim.Native.Nat.{ℕ}
-use Rattle.primitive.specs.Queue.{count, entryAt, pushed, swapped, reversed, reversedFrom, entries, queueOf}
+use Rattle.queue.specs.Queue.{count, entryAt, pushed, swapped, reversed, reversedFrom, entries, queueOf}
 use Rattle.primitive.specs.Rows.{hasField, field, setField}
-use Rattle.primitive.specs.Stack.{pushedLen}
+use Rattle.stack.specs.Stack.{pushedLen}
 use Rattle.marking.specs.Fields.{flagsOf, has, lacks, hasOnly}
 use Rattle.marking.specs.Notify.{queued, ownerOf, climbed, notified}
 use Rattle.marking.specs.Valid.{validAt, validFrom, validLink}

@@ -10,7 +10,7 @@ use lib.Dec.{eqb, ltb}
 use lib.ListN.{length, getD, set, length-set}
 use lib.Seq.{getD-set-other}
 use borrow.Author.Tests.{eqb-false}
-use Rattle.primitive.specs.Queue.{count, entryAt, pushed, swapped, reversed, reversedFrom}
+use Rattle.queue.specs.Queue.{count, entryAt, pushed, swapped, reversed, reversedFrom}
 use Rattle.primitive.specs.Rows.{field, setField}
 use Rattle.primitive.specs.Slots.{slotOf}
 use Rattle.primitive.specs.declared.slots.Slot.{Slot}

@@ -8,11 +8,11 @@ use native.Mathlib.Omega.{arith}
 use lib.ListN.{getD, set, replicate}
 use lib.Seq.{set-getD}
 use Rattle.primitive.specs.Slots.{slotOf}
-use Rattle.primitive.specs.Stack.{pushed, pushedLen, popped}
+use Rattle.stack.specs.Stack.{pushed, pushedLen, popped}
 use Rattle.primitive.specs.declared.slots.Slot.{Slot}
 use Rattle.primitive.specs.declared.slots.Slot.the-variants.{At, Nothing}
-use Rattle.primitive.specs.declared.stack.Popped.{Popped}
-use Rattle.primitive.specs.declared.stack.Popped.the-variants.{Top, Empty}
+use Rattle.stack.specs.declared.Popped.{Popped}
+use Rattle.stack.specs.declared.Popped.the-variants.{Top, Empty}
 use Rattle.marking.specs.Fields.{subs, sub, nextSub, mutable, has}
 use Rattle.marking.specs.Visits.{visit, after, reached}
 use Rattle.marking.specs.Walks.{Place, place, Rest, below, down, back, along, onward, turn, walked}

@@ -4,7 +4,7 @@ use mathlib.Core.Bool.{true, false}
 use mathlib.Core.List.{List}
 use lib.ListN.{getD, replicate}
 use Rattle.primitive.specs.Slots.{slotOf}
-use Rattle.primitive.specs.Stack.{pushed, pushedLen}
+use Rattle.stack.specs.Stack.{pushed, pushedLen}
 use Rattle.primitive.specs.declared.slots.Slot.{Slot}
 use Rattle.primitive.specs.declared.slots.Slot.the-variants.{At, Nothing}
 use Rattle.primitive.specs.Words.{linkRows}

@@ -2,8 +2,7 @@
 // The climb to them has a budget of a turn for each row. Each turn clears a WATCHING bit that the turn before saw, so the budget is never what ends it.
 use crate::nodes::flags;
 use crate::nodes::set_flags;
-use primitive::flags::Flags;
-use primitive::queue;
+use flags::Flags;
 use primitive::rows::LINK;
 use primitive::rows::NODE;
 use primitive::rows::SUB;

@@ -1,5 +1,5 @@
 // The flags of a node: the low byte of its FLAGS word.
-use primitive::flags::Flags;
+use flags::Flags;
 use primitive::rows::FLAGS;
 use primitive::rows::NODE;
 use primitive::words;

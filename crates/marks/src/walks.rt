@@ -2,7 +2,7 @@
 use crate::effects::notify;
 use crate::nodes::flags;
 use crate::nodes::set_flags;
-use primitive::flags::Flags;
+use flags::Flags;
 use primitive::rows::DEPS_TAIL;
 use primitive::rows::LINK;
 use primitive::rows::NEXT_SUB;
@@ -12,13 +12,12 @@ use primitive::rows::SUB;
 use primitive::rows::SUBS;
 use primitive::slots;
 use primitive::slots::Slot;
-use primitive::stack;
-use primitive::stack::Popped;
 use primitive::words;
+use stack::Popped;
 ghost use mathlib.Core.Path.{_≡_};
 ghost use Rattle.marking.specs.Valid.{validLink};
 ghost use Rattle.marking.specs.Visits.{visit, after, stored, reached};
-ghost use Rattle.primitive.specs.Stack.{pushed, pushedLen};
+ghost use Rattle.stack.specs.Stack.{pushed, pushedLen};
 ghost use Rattle.marking.specs.Walks.{place, below, walked, blank, propagated};
 ghost use Rattle.marking.specs.Shallow.{dirtied, shallow};
 

@@ -9,8 +9,8 @@ use native.Mathlib.Omega.{arith}
 use lib.Dec.{leb, ltb}
 use lib.IntN.{ℤ, pos, negsuc}
 use borrow.Author.Tests.{leb-false, ltb-true, ltb-false, not-true, not-false, eqb-false}
-use Rattle.primitive.specs.declared.values.Value.{Value}
-use Rattle.primitive.specs.Values.{value, same}
+use Rattle.values.specs.declared.Value.{Value}
+use Rattle.values.specs.Values.{value, same}
 use Rattle.trees.specs.Trees.{Tree, constant, size, nesting, names}
 use Rattle.trees.specs.Legal.{mostCells, mostNesting}
 use Rattle.meaning.specs.State.{St, Kind, signal, computed, effect, scope, Room, capacities, readable, on, f17, empty}

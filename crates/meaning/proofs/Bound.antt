@@ -6,8 +6,8 @@ use mathlib.Core.Option.{Option, none, some}
 use Prim.Native.Nat.{ℕ, zero, suc, _<_}
 use lib.IntN.{ℤ, pos, negsuc}
 use borrow.Author.Tests.{not-true, eqb-false}
-use Rattle.primitive.specs.declared.values.Value.{Value}
-use Rattle.primitive.specs.Values.{value, same}
+use Rattle.values.specs.declared.Value.{Value}
+use Rattle.values.specs.Values.{value, same}
 use Rattle.trees.specs.Trees.{constant, names}
 use Rattle.meaning.specs.State.{St, Kind, signal, computed, effect, scope, Row, readable, f0, f1, f17, nothing}
 use Rattle.meaning.specs.Setters.{withLog, withDepth, setFl, setPend}

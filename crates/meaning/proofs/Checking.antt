@@ -3,7 +3,7 @@ use mathlib.Core.Path.{_≡_, refl, sym, ap, _∙_, subst}
 use mathlib.Core.Bool.{Bool, true, false, not, _&&_}
 use mathlib.Core.List.{List, [], _∷_}
 use Prim.Native.Nat.{ℕ, zero, suc}
-use Rattle.primitive.specs.declared.flags.Named.{Named}
+use Rattle.flags.specs.declared.Named.{Named}
 use Rattle.meaning.specs.State.{St, Kind, deps, bare, withPending}
 use Rattle.meaning.specs.Setters.{setFl}
 use Rattle.meaning.specs.Links.{provided, isNil, several}

@@ -5,8 +5,8 @@ use mathlib.Core.List.{List, [], _∷_}
 use mathlib.Core.Option.{Option, none, some}
 use Prim.Native.Nat.{ℕ, zero, suc, _+_, _<_, _%_, _^_}
 use native.Mathlib.Omega.{arith}
-use Rattle.primitive.specs.declared.values.Value.{Value}
-use Rattle.primitive.specs.Values.{same}
+use Rattle.values.specs.declared.Value.{Value}
+use Rattle.values.specs.Values.{same}
 use Rattle.trees.specs.Trees.{Tree}
 use Rattle.meaning.specs.State.{St, Row, computed, effect, aSignal, f6, f17, nothing, raised}
 use Rattle.meaning.specs.Setters.{withLog, withDepth, setFl, setPend}

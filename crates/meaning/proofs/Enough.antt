@@ -4,7 +4,7 @@ use mathlib.Core.Bool.{Bool, true, false, not, _&&_}
 use mathlib.Core.List.{List, [], _∷_, _++_}
 use Prim.Native.Nat.{ℕ, zero, suc, _+_, _≤_}
 use native.Mathlib.Omega.{arith}
-use Rattle.primitive.specs.Values.{same, isZero}
+use Rattle.values.specs.Values.{same, isZero}
 use Rattle.trees.specs.Trees.{Tree, constant, read, two, choose, apply}
 use Rattle.meaning.specs.State.{St, Kind, signal, computed, effect, scope, deps, bare, hasValue, f1, f5, withPending, raised}
 use Rattle.meaning.specs.Setters.{setFl, setSto, withCycle}

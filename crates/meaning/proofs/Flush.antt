@@ -5,7 +5,7 @@ use mathlib.Core.List.{List, [], _∷_, _++_, append-assoc, append-nil}
 use Prim.Native.Nat.{ℕ, _≤_}
 use native.Mathlib.Omega.{arith}
 use lib.ListN.{length}
-use Rattle.primitive.specs.declared.values.Value.{Value}
+use Rattle.values.specs.declared.Value.{Value}
 use Rattle.meaning.specs.State.{St, Row, f2, f6, raised}
 use Rattle.meaning.specs.Setters.{withCycle, withQueue, setFl}
 use Rattle.meaning.specs.Links.{rewind, purge}

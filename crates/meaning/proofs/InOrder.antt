@@ -6,9 +6,9 @@ use mathlib.Core.Option.{some}
 use Prim.Native.Nat.{ℕ, _<_}
 use lib.IntN.{ℤ}
 use borrow.Author.Tests.{eqb-true}
-use Rattle.primitive.specs.declared.values.Value.{Value}
-use Rattle.primitive.specs.Values.{same}
-use Rattle.primitive.proofs.ValueLaws.{same-yes, yes-same}
+use Rattle.values.specs.declared.Value.{Value}
+use Rattle.values.specs.Values.{same}
+use Rattle.values.proofs.ValueLaws.{same-yes, yes-same}
 use Rattle.meaning.specs.State.{St, Row, signal, readable, unclean, hasValue, f17}
 use Rattle.meaning.specs.Setters.{withLog, withDepth}
 use Rattle.meaning.specs.Marks.{marksOf, propagate, shallow}

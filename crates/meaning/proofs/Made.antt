@@ -10,8 +10,8 @@ use lib.Dec.{eqb}
 use lib.IntN.{pos}
 use lib.ListN.{length}
 use borrow.Author.Tests.{eqb-true, eqb-false}
-use Rattle.primitive.specs.declared.flags.Named.{Named}
-use Rattle.primitive.specs.declared.values.Value.{Value}
+use Rattle.flags.specs.declared.Named.{Named}
+use Rattle.values.specs.declared.Value.{Value}
 use Rattle.trees.specs.Trees.{Tree, constant, names}
 use Rattle.meaning.specs.State.{St, Kind, signal, computed, effect, scope, readable, deps, f0, f1, nothing, up}
 use Rattle.meaning.specs.Links.{headOf, lastOf, goesTo, isFrom, spent, insert, link}

@@ -9,7 +9,7 @@ use native.Mathlib.Omega.{arith}
 use lib.Dec.{eqb, ltb}
 use lib.ListN.{length}
 use borrow.Author.Tests.{eqb-true, eqb-false, le-ltb}
-use Rattle.primitive.specs.declared.flags.Named.{Named}
+use Rattle.flags.specs.declared.Named.{Named}
 use Rattle.meaning.specs.State.{St, Kind, signal, computed, effect, scope, readable, deps, unclean, recursing, withPending, withWatching, f0, f1, f2, f32, up}
 use Rattle.meaning.specs.Setters.{setFl, withStuck}
 use Rattle.meaning.specs.Marks.{Marks, marks, marksOf, withMarks, chain, calm, isEffect, effects, notify, mark}

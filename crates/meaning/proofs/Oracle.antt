@@ -4,8 +4,8 @@ use mathlib.Core.Bool.{Bool, true, false}
 use mathlib.Core.List.{List, [], _∷_, _++_}
 use mathlib.Core.Option.{Option, none, some}
 use lib.IntN.{pos, negsuc}
-use Rattle.primitive.specs.Values.{value}
-use Rattle.primitive.specs.Values.{sum, difference, minimum, maximum, less, clamp, same, sameNumber, isZero}
+use Rattle.values.specs.Values.{value}
+use Rattle.values.specs.Values.{sum, difference, minimum, maximum, less, clamp, same, sameNumber, isZero}
 use Rattle.trees.specs.Cells.{cellOf, codes, readOf, bareOf}
 use Rattle.trees.specs.Trees.{apply, written, size, names}
 use Rattle.meaning.specs.State.{up, below, empty}

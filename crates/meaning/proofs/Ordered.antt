@@ -8,7 +8,7 @@ use native.Mathlib.Omega.{arith}
 use lib.Dec.{ltb}
 use lib.ListN.{length, length-append, length-reverse}
 use borrow.Author.Tests.{ltb-false}
-use Rattle.primitive.specs.declared.flags.Named.{Named}
+use Rattle.flags.specs.declared.Named.{Named}
 use Rattle.meaning.specs.State.{St, unclean, recursing}
 use Rattle.meaning.specs.Links.{several}
 use Rattle.meaning.specs.Marks.{Marks, marks, marksOf, halt, chain, calm, effects, notify, mark, stackFull, prop, turns, propagate}

@@ -9,8 +9,8 @@ use native.Mathlib.Omega.{arith}
 use lib.IntN.{ℤ, pos, negsuc}
 use lib.ListN.{length}
 use borrow.Author.Tests.{eq-eqb, ltb-false, not-true}
-use Rattle.primitive.specs.declared.values.Value.{Value}
-use Rattle.primitive.specs.Values.{value, same}
+use Rattle.values.specs.declared.Value.{Value}
+use Rattle.values.specs.Values.{value, same}
 use Rattle.lists.specs.Sum.{count}
 use Rattle.trees.specs.Trees.{Tree, constant}
 use Rattle.meaning.specs.State.{St, Kind, signal, effect, scope, Row, readable, f0, f6, f17, nothing, up}

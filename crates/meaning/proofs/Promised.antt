@@ -11,7 +11,7 @@ use lib.Dec.{leb, ltb}
 use lib.IntN.{ℤ, pos}
 use lib.ListN.{length, drop}
 use borrow.Author.Tests.{leb-false, ltb-false}
-use Rattle.primitive.specs.declared.values.Value.{Value}
+use Rattle.values.specs.declared.Value.{Value}
 use Rattle.meaning.specs.State.{St, Row, signal, computed, readable, deps, unclean, f0, f1, f2, f17, up}
 use Rattle.meaning.specs.Setters.{withQueue, withDepth, withLog, setFl, setPend}
 use Rattle.meaning.specs.Links.{several, link, cut, unlink}

@@ -7,7 +7,7 @@ use Prim.Native.Nat.{ℕ, zero, suc, _+_}
 use lib.Dec.{eqb, leb}
 use lib.ListN.{length}
 use borrow.Author.Tests.{eqb-true, eqb-false}
-use Rattle.primitive.specs.declared.flags.Named.{Named}
+use Rattle.flags.specs.declared.Named.{Named}
 use Rattle.meaning.specs.State.{St, unclean, recursing, withPending, withWatching, up}
 use Rattle.meaning.specs.Links.{several}
 use Rattle.meaning.specs.Marks.{Marks, marksOf, halt, chain, calm, notify, mark, stackFull, prop, turns, propagate}

@@ -8,8 +8,8 @@ use native.Mathlib.Omega.{arith}
 use lib.Dec.{eqb}
 use lib.ListN.{length, length-append}
 use borrow.Author.Tests.{eqb-true, eqb-false}
-use Rattle.primitive.specs.declared.flags.Named.{Named}
-use Rattle.primitive.specs.Values.{isZero}
+use Rattle.flags.specs.declared.Named.{Named}
+use Rattle.values.specs.Values.{isZero}
 use Rattle.trees.specs.Trees.{Tree, constant, read, two, choose, names}
 use Rattle.meaning.specs.State.{St, Kind, signal, computed, effect, scope, readable, hasValue, rank, f1, up}
 use Rattle.meaning.specs.Links.{headOf, lastOf, goesTo, isFrom, renew, spent, insert, link}

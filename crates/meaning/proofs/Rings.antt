@@ -6,9 +6,9 @@ use mathlib.Core.List.{List, [], _∷_}
 use mathlib.Core.Option.{Option, none, some}
 use Prim.Native.Nat.{ℕ, zero, suc, _+_}
 use native.Mathlib.Omega.{arith}
-use Rattle.primitive.specs.declared.flags.Named.{Named}
-use Rattle.primitive.specs.declared.values.Value.{Value}
-use Rattle.primitive.specs.Values.{isZero}
+use Rattle.flags.specs.declared.Named.{Named}
+use Rattle.values.specs.declared.Value.{Value}
+use Rattle.values.specs.Values.{isZero}
 use Rattle.trees.specs.Trees.{Tree, constant, read, two, choose}
 use Rattle.meaning.specs.State.{St, Kind, signal, computed, effect, scope, Row, bare, hasValue, f0, f1, f2, f5, f6, f17, withPending, raised, deps}
 use Rattle.meaning.specs.Setters.{withCycle, withLog, withQueue, setFl, setSto, setGone}

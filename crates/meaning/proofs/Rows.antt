@@ -7,7 +7,7 @@ use mathlib.Core.Option.{none, some}
 use Prim.Native.Nat.{ℕ, suc, _≤_, _<_}
 use native.Mathlib.Omega.{arith}
 use lib.ListN.{length, length-append}
-use Rattle.primitive.specs.Values.{same}
+use Rattle.values.specs.Values.{same}
 use Rattle.lists.specs.Sum.{bit}
 use Rattle.meaning.specs.State.{St, Kind, effect, Row, readable, f0, nothing}
 use Rattle.meaning.specs.Setters.{withQueue}

@@ -9,7 +9,7 @@ use native.Mathlib.Omega.{arith}
 use lib.Dec.{eqb}
 use lib.ListN.{length, length-append}
 use borrow.Author.Tests.{eqb-true, eqb-false}
-use Rattle.primitive.specs.declared.flags.Named.{Named}
+use Rattle.flags.specs.declared.Named.{Named}
 use Rattle.trees.specs.Trees.{Tree}
 use Rattle.meaning.specs.State.{St, Kind, effect, Row, readable, rank, deps, f1, f2, f6, raised, up}
 use Rattle.meaning.specs.Setters.{setFl, withCycle, withQueue}

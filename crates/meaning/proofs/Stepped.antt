@@ -6,9 +6,9 @@ use mathlib.Core.Option.{Option, none, some}
 use Prim.Native.Nat.{ℕ, zero, suc, _+_, _≤_}
 use native.Mathlib.Omega.{arith}
 use lib.IntN.{ℤ, pos}
-use Rattle.primitive.specs.declared.flags.Named.{Named}
-use Rattle.primitive.specs.declared.values.Value.{Value}
-use Rattle.primitive.specs.Values.{value, same}
+use Rattle.flags.specs.declared.Named.{Named}
+use Rattle.values.specs.declared.Value.{Value}
+use Rattle.values.specs.Values.{value, same}
 use Rattle.trees.specs.Trees.{Tree, constant}
 use Rattle.meaning.specs.State.{St, Kind, signal, computed, effect, scope, aSignal, f0, f1, f2, f6, f17, nothing}
 use Rattle.meaning.specs.Setters.{withLog, withDepth, setFl, setPend}

@@ -4,7 +4,7 @@ use mathlib.Core.Bool.{true, false}
 use mathlib.Core.List.{List, [], _∷_}
 use mathlib.Core.Option.{Option, none, some}
 use Prim.Native.Nat.{ℕ, suc}
-use Rattle.primitive.specs.declared.flags.Named.{Named}
+use Rattle.flags.specs.declared.Named.{Named}
 use Rattle.meaning.specs.State.{St, effect, f0, f2, f6, f17, raised}
 use Rattle.meaning.specs.Setters.{withCycle, setFl, setGone}
 use Rattle.meaning.specs.Links.{isNil, headOf, each, cut, rewind, purgeW, lastLink, disposeW, unwatchedW, unlinkN, purge}

@@ -4,7 +4,7 @@ use mathlib.Core.Bool.{Bool, true}
 use mathlib.Core.List.{List, [], _∷_}
 use mathlib.Core.Option.{Option}
 use Prim.Native.Nat.{ℕ}
-use Rattle.primitive.specs.declared.values.Value.{Value}
+use Rattle.values.specs.declared.Value.{Value}
 use Rattle.trees.specs.Trees.{Tree}
 use Rattle.meaning.specs.State.{St, Kind, Room, Row}
 use Rattle.meaning.specs.Links.{headOf, lastOf, goesTo, isFrom, renew, insert, link, cut}

@@ -6,8 +6,8 @@ use mathlib.Core.Option.{none}
 use Prim.Native.Nat.{ℕ, zero, suc, _+_}
 use lib.Dec.{leb, ltb}
 use lib.ListN.{length}
-use Rattle.primitive.specs.declared.flags.Named.{Named}
-use Rattle.primitive.specs.declared.values.Value.{Value}
+use Rattle.flags.specs.declared.Named.{Named}
+use Rattle.values.specs.declared.Value.{Value}
 use Rattle.meaning.specs.State.{St, Kind, signal, computed, effect, scope, readable, aSignal, bare, hasValue, unclean, recursing, deps}
 use Rattle.meaning.specs.Links.{provided, isNil, several, spent, insert, unlinkN}
 use Rattle.meaning.specs.Marks.{Marks, halt, chain, isEffect, effects, notify, mark, stackFull, prop, wakes, shallow}

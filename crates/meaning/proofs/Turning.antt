@@ -4,7 +4,7 @@ use mathlib.Core.Logic.{inl}
 use mathlib.Core.Bool.{Bool, true, false}
 use mathlib.Core.List.{List, [], _∷_, _++_, append-assoc, append-nil}
 use Prim.Native.Nat.{ℕ}
-use Rattle.primitive.specs.Values.{value, sum}
+use Rattle.values.specs.Values.{value, sum}
 use Rattle.meaning.specs.State.{St, Row, f2}
 use Rattle.meaning.specs.Setters.{withQueue, setFl}
 use Rattle.meaning.specs.Reads.{check}

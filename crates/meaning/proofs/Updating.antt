@@ -8,8 +8,8 @@ use native.Mathlib.Omega.{arith}
 use lib.Dec.{eqb}
 use lib.ListN.{length}
 use borrow.Author.Tests.{eq-eqb, eqb-true, eqb-false}
-use Rattle.primitive.specs.declared.flags.Named.{Named}
-use Rattle.primitive.specs.Values.{same}
+use Rattle.flags.specs.declared.Named.{Named}
+use Rattle.values.specs.Values.{same}
 use Rattle.trees.specs.Trees.{Tree}
 use Rattle.meaning.specs.State.{St, Kind, signal, computed, effect, scope, readable, rank, deps, bare, f0, f1, f5, f17, withPending, raised, up}
 use Rattle.meaning.specs.Setters.{setFl, setSto, withCycle}

@@ -7,9 +7,9 @@ use mathlib.Core.Option.{some}
 use Prim.Native.Nat.{ℕ, zero, suc, _<_}
 use native.Mathlib.Omega.{arith}
 use lib.IntN.{ℤ}
-use Rattle.primitive.specs.declared.flags.Named.{Named}
-use Rattle.primitive.specs.Values.{same}
-use Rattle.primitive.proofs.ValueLaws.{same-yes}
+use Rattle.flags.specs.declared.Named.{Named}
+use Rattle.values.specs.Values.{same}
+use Rattle.values.proofs.ValueLaws.{same-yes}
 use Rattle.meaning.specs.State.{St, Kind, signal, readable, f1, f17, bare, hasValue, up}
 use Rattle.meaning.specs.Setters.{setFl, setSto, withLog}
 use Rattle.meaning.specs.Links.{provided}

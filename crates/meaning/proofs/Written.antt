@@ -5,9 +5,9 @@ use mathlib.Core.List.{List, []}
 use Prim.Native.Nat.{ℕ, zero, suc}
 use native.Mathlib.Omega.{arith}
 use lib.ListN.{length}
-use Rattle.primitive.specs.declared.values.Value.{Value}
-use Rattle.primitive.specs.Values.{same}
-use Rattle.primitive.proofs.ValueLaws.{same-yes, yes-same}
+use Rattle.values.specs.declared.Value.{Value}
+use Rattle.values.specs.Values.{same}
+use Rattle.values.proofs.ValueLaws.{same-yes, yes-same}
 use Rattle.meaning.specs.State.{St, signal, aSignal, f17, up}
 use Rattle.meaning.specs.Setters.{setFl, setPend, withDepth, withLog}
 use Rattle.meaning.specs.Links.{provided, isNil}

@@ -5,8 +5,8 @@ use mathlib.Core.List.{List, [], _∷_, _++_}
 use Prim.Native.Nat.{ℕ}
 use lib.IntN.{ℤ, pos, negsuc}
 use lib.ListN.{replicate}
-use Rattle.primitive.specs.declared.values.Value.{Value}
-use Rattle.primitive.specs.Values.{value, greatest}
+use Rattle.values.specs.declared.Value.{Value}
+use Rattle.values.specs.Values.{value, greatest}
 use Rattle.trees.specs.declared.cells.Op.the-variants.{Sum, Difference, Less}
 use Rattle.trees.specs.Trees.{Tree, constant, read, two, written}
 use Rattle.meaning.specs.State.{St, Room, Row, empty, deps}

@@ -5,8 +5,8 @@ use mathlib.Core.Option.{Option, none, some}
 use Prim.Native.Nat.{ℕ, zero, suc}
 use lib.IntN.{ℤ, pos}
 use lib.ListN.{length}
-use Rattle.primitive.specs.declared.values.Value.{Value}
-use Rattle.primitive.specs.Values.{value, sum}
+use Rattle.values.specs.declared.Value.{Value}
+use Rattle.values.specs.Values.{value, sum}
 use Rattle.meaning.specs.State.{St, Room, capacities, Row, nothing, empty}
 use Rattle.meaning.specs.Setters.{withLog}
 use Rattle.meaning.specs.Links.{stop, dispose}

@@ -4,9 +4,9 @@ use mathlib.Core.List.{List, [], _∷_, _++_}
 use mathlib.Core.Option.{Option, none, some}
 use Prim.Native.Nat.{ℕ, zero, suc, _+_, max}
 use lib.IntN.{pos}
-use Rattle.primitive.specs.declared.flags.Named.{Named}
-use Rattle.primitive.specs.declared.values.Value.{Value}
-use Rattle.primitive.specs.Values.{same}
+use Rattle.flags.specs.declared.Named.{Named}
+use Rattle.values.specs.declared.Value.{Value}
+use Rattle.values.specs.Values.{same}
 use Rattle.trees.specs.Trees.{Tree, constant, size, names}
 use Rattle.meaning.specs.State.{St, Kind, signal, computed, effect, scope, aSignal, f0, f1, f2, f6, f17, nothing, raised}
 use Rattle.meaning.specs.Setters.{setKind, setForm, setOwner, setGone, setLevel, setFl, setSto, setPend, setDone, setRest, setSubs, withSize, withUsed, withQueue, withDepth, withCycle, withLog}

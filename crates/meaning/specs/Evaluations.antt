@@ -3,8 +3,8 @@ use mathlib.Core.Bool.{Bool, true, false}
 use mathlib.Core.List.{List, [], _∷_}
 use mathlib.Core.Option.{Option, none, some}
 use Prim.Native.Nat.{ℕ, zero, suc, _+_}
-use Rattle.primitive.specs.declared.values.Value.{Value}
-use Rattle.primitive.specs.Values.{value, sum, same, isZero}
+use Rattle.values.specs.declared.Value.{Value}
+use Rattle.values.specs.Values.{value, sum, same, isZero}
 use Rattle.trees.specs.Trees.{Tree, constant, read, two, choose}
 use Rattle.meaning.specs.State.{St, Kind, signal, computed, effect, scope, f5, f6, f17, bare, raised, deps, nothing}
 use Rattle.meaning.specs.Setters.{setFl, setPend, withCycle, withQueue, withDepth}

@@ -1,6 +1,6 @@
 -- Document 01, "Flags and tables at rest": the flags that occur, by their byte, and flags with one bit changed. Written by tools/setters-meaning.py.
 use mathlib.Core.Bool.{Bool, true, false}
-use Rattle.primitive.specs.declared.flags.Named.{Named}
+use Rattle.flags.specs.declared.Named.{Named}
 
 abbrev pub f0 : Named
 f0 = record { mutable = false; watching = false; «recursed_check» = false; recursed = false; dirty = false; pending = false }

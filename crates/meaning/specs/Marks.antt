@@ -5,7 +5,7 @@ use mathlib.Core.Option.{Option, none, some}
 use Prim.Native.Nat.{ℕ, zero, suc, _+_}
 use lib.Dec.{leb, ltb}
 use lib.ListN.{length}
-use Rattle.primitive.specs.declared.flags.Named.{Named}
+use Rattle.flags.specs.declared.Named.{Named}
 use Rattle.meaning.specs.State.{St, Kind, signal, computed, effect, scope, unclean, recursing, withPending, withDirty, withWatching, up}
 use Rattle.meaning.specs.Setters.{withFl, withQueue, withStuck}
 use Rattle.meaning.specs.Links.{several}

@@ -5,7 +5,7 @@ use mathlib.Core.List.{List, [], _∷_}
 use mathlib.Core.Option.{Option, none, some}
 use Prim.Native.Nat.{ℕ, zero, suc, _+_}
 use lib.IntN.{pos}
-use Rattle.primitive.specs.Values.{value}
+use Rattle.values.specs.Values.{value}
 use Rattle.trees.specs.Trees.{Tree, constant}
 use Rattle.meaning.specs.State.{St, Room, Kind, signal, computed, effect, scope, f0, f1, f6, nothing}
 use Rattle.meaning.specs.Setters.{withQueue, setFl, setGone}

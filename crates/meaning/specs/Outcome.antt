@@ -6,8 +6,8 @@ use mathlib.Core.Option.{Option}
 use Prim.Native.Nat.{ℕ, _<_}
 use lib.Dec.{eqb}
 use lib.IntN.{ℤ, pos}
-use Rattle.primitive.specs.declared.values.Value.{Value}
-use Rattle.primitive.specs.Values.{value, sum}
+use Rattle.values.specs.declared.Value.{Value}
+use Rattle.values.specs.Values.{value, sum}
 use Rattle.trees.specs.Trees.{Tree}
 use Rattle.meaning.specs.State.{St, effect, Row, nothing}
 use Rattle.meaning.specs.Reads.{evaluate}

@@ -3,8 +3,8 @@ use mathlib.Core.Bool.{Bool, true, false, not, _&&_}
 use mathlib.Core.List.{List, [], _∷_, _++_}
 use Prim.Native.Nat.{ℕ, zero, suc}
 use lib.Dec.{eqb}
-use Rattle.primitive.specs.declared.values.Value.{Value}
-use Rattle.primitive.specs.Values.{value, same, isZero}
+use Rattle.values.specs.declared.Value.{Value}
+use Rattle.values.specs.Values.{value, same, isZero}
 use Rattle.trees.specs.Trees.{Tree, constant, read, two, choose, apply}
 use Rattle.meaning.specs.State.{St, Kind, signal, computed, effect, scope, f1, f5, bare, hasValue, withPending, raised, deps}
 use Rattle.meaning.specs.Setters.{setFl, setSto, withCycle}

@@ -6,9 +6,9 @@ use mathlib.Core.Option.{Option, none, some}
 use Prim.Native.Nat.{ℕ, zero, suc, _+_, _%_, _^_}
 use lib.Dec.{eqb, leb}
 use lib.IntN.{pos}
-use Rattle.primitive.specs.declared.flags.Named.{Named}
-use Rattle.primitive.specs.declared.values.Value.{Value}
-use Rattle.primitive.specs.Values.{value}
+use Rattle.flags.specs.declared.Named.{Named}
+use Rattle.values.specs.declared.Value.{Value}
+use Rattle.values.specs.Values.{value}
 use Rattle.trees.specs.Trees.{Tree, constant}
 pub use Rattle.meaning.specs.Flags.{f0, f1, f2, f5, f6, f17, f32, f33, f48, f49, withPending, withDirty, withWatching}
 

@@ -3,7 +3,7 @@ use mathlib.Core.Path.{_≡_}
 use mathlib.Core.Bool.{true, false}
 use mathlib.Core.List.{List, [], _∷_}
 use Prim.Native.Nat.{ℕ}
-use Rattle.primitive.specs.declared.values.Value.{Value}
+use Rattle.values.specs.declared.Value.{Value}
 use Rattle.meaning.specs.State.{St, f2, f17}
 use Rattle.meaning.specs.Setters.{withQueue, withDepth, withLog, setFl, setPend}
 use Rattle.meaning.specs.Marks.{Marks, marksOf, withMarks}

@@ -2,7 +2,7 @@
 use mathlib.Core.Path.{_≡_, refl}
 use mathlib.Core.List.{List, [], _∷_}
 use lib.IntN.{ℤ, pos}
-use Rattle.primitive.specs.Values.{value, valueAt, setValue}
+use Rattle.values.specs.Values.{value, valueAt, setValue}
 use Rattle.reading.specs.Tables.{state, currentOf, pendingOf, setPending}
 use Rattle.operating.specs.Writes.{stored}
 

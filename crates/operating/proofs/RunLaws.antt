@@ -16,11 +16,11 @@ use mir.Facts.{toZ-pos}
 use borrow.Rule.Slice.PartMut.{midOf, putMid}
 use Rattle.primitive.specs.declared.slots.Slot.{Slot}
 use Rattle.primitive.specs.declared.slots.Slot.the-variants.{At, Nothing}
-use Rattle.primitive.specs.declared.values.Value.{Value}
+use Rattle.values.specs.declared.Value.{Value}
 use Rattle.primitive.specs.Slots.{slotOf}
-use Rattle.primitive.specs.Values.{same, sum}
+use Rattle.values.specs.Values.{same, sum}
 use Rattle.primitive.specs.Words.{DEPTH, nodeRows}
-use Rattle.primitive.specs.Queue.{count, entryAt}
+use Rattle.queue.specs.Queue.{count, entryAt}
 use Rattle.marking.specs.Fields.{flagsOf, setFlags, watching, dirty, pending, has, subs}
 use Rattle.marking.specs.Walks.{propagated}
 use Rattle.reading.specs.Tables.{State, state, Told, told, Got, currentOf, pendingOf}

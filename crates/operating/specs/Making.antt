@@ -5,12 +5,12 @@ use mathlib.Core.List.{List, [], _∷_}
 use lib.Dec.{leb, ltb}
 use lib.IntN.{ℤ, pos}
 use lib.ListN.{length, getD, set}
-use Rattle.primitive.specs.declared.flags.Flags.{Flags}
+use Rattle.flags.specs.declared.Flags.{Flags}
 use Rattle.primitive.specs.declared.slots.Slot.{Slot}
 use Rattle.primitive.specs.declared.slots.Slot.the-variants.{At, Nothing}
-use Rattle.primitive.specs.declared.values.Value.{Value}
+use Rattle.values.specs.declared.Value.{Value}
 use Rattle.primitive.specs.Slots.{slotOf}
-use Rattle.primitive.specs.Values.{value}
+use Rattle.values.specs.Values.{value}
 use Rattle.primitive.specs.Words.{COUNT, USED, FLAGS, KIND, GONE, DEPS, DEPS-TAIL, SUBS, SUBS-TAIL, START, CELLS, READS, OWNER, LEVEL, SIGNAL, COMPUTED, EFFECT, SCOPE, setNode, nodeRows}
 use Rattle.trees.specs.Names.{readCells, heightIn, mostHeight}
 use Rattle.counting.specs.Depths.{mostOwnerDepth, depthUnder}

@@ -6,7 +6,7 @@ use lib.Dec.{ltb}
 use lib.IntN.{ℤ}
 use lib.ListN.{take, drop}
 use Rattle.primitive.specs.Words.{DEPS-TAIL, setNode, nodeRows}
-use Rattle.primitive.specs.Queue.{count, entryAt, emptied}
+use Rattle.queue.specs.Queue.{count, entryAt, emptied}
 use Rattle.linking.specs.Table.{tab}
 use Rattle.linking.specs.Ring.{purged}
 use Rattle.marking.specs.Fields.{flagsOf, setFlags, watching, recursedCheck, dirty, pending, has, without}

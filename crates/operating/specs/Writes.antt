@@ -5,9 +5,9 @@ use mathlib.Core.List.{List}
 use lib.IntN.{ℤ}
 use Rattle.primitive.specs.declared.slots.Slot.{Slot}
 use Rattle.primitive.specs.declared.slots.Slot.the-variants.{At, Nothing}
-use Rattle.primitive.specs.declared.values.Value.{Value}
+use Rattle.values.specs.declared.Value.{Value}
 use Rattle.primitive.specs.Slots.{slotOf}
-use Rattle.primitive.specs.Values.{same, sum}
+use Rattle.values.specs.Values.{same, sum}
 use Rattle.marking.specs.Fields.{setFlags, subs}
 use Rattle.marking.specs.Walks.{propagated}
 use Rattle.reading.specs.Tables.{State, state, currentOf, pendingOf, setPending}

@@ -1,4 +1,4 @@
-use primitive::flags::Flags;
+use flags::Flags;
 
 // What a new node is, besides its formula. The owner is a word: 0 for none, else its number + 1.
 pub struct Sort {

@@ -1,5 +1,5 @@
 // The log of runs: rows of two words, the effect's number and the value of its formula.
-use primitive::values::Value;
+use values::Value;
 ghost use mathlib.Core.Path.{_≡_};
 ghost use Rattle.operating.specs.Log.{numberWord, rowed, rowsIn};
 

@@ -1,18 +1,17 @@
 // Runs of effects, and the flush that empties the queue. After run and flush of lib.rs.
 use crate::log::write_row;
+use flags::Flags;
 use links::unlink::purge_deps;
 use marks::nodes::flags;
 use marks::nodes::set_flags;
-use primitive::flags::Flags;
-use primitive::queue;
 use primitive::rows::DEPS_TAIL;
 use primitive::rows::NODE;
-use primitive::values::Value;
 use primitive::words;
 use reads::cycle::raise_cycle;
 use reads::read::check_dirty;
 use reads::read::evaluate;
 use reads::tests::has;
+use values::Value;
 ghost use mathlib.Core.Path.{_≡_};
 ghost use mathlib.Core.List.{List};
 ghost use lib.IntN.{ℤ};

@@ -1,16 +1,16 @@
 // Writes to a signal. After signal_set_oper, signal_set_with_oper and _signal_set_oper_core of lib.rs.
 use crate::batches::depth;
 use crate::runs::flush;
+use flags::Flags;
 use marks::nodes::set_flags;
 use marks::walks::propagate;
-use primitive::flags::Flags;
 use primitive::rows::NODE;
 use primitive::rows::SUBS;
 use primitive::slots;
 use primitive::slots::Slot;
-use primitive::values::Value;
 use primitive::words;
 use reads::places;
+use values::Value;
 ghost use mathlib.Core.Path.{_≡_};
 ghost use Rattle.reading.specs.Tables.{state};
 ghost use Rattle.operating.specs.Log.{ranTo};

@@ -5,9 +5,9 @@ use mathlib.Core.List.{List, [], _∷_}
 use Prim.Native.Nat.{ℕ, _+_, _*_}
 use lib.IntN.{ℤ, pos}
 use lib.ListN.{getD, set, replicate}
-use Rattle.primitive.specs.Flags as flags
+use Rattle.flags.specs.Flags as flags
 use Rattle.primitive.specs.Rows as rows
-use Rattle.primitive.specs.Values as values
+use Rattle.values.specs.Values as values
 use Rattle.trees.specs.Cells as cells
 use Rattle.trees.specs.Trees as trees
 use Rattle.linking.specs.Free as free

@@ -8,9 +8,9 @@ use lib.IntN.{ℤ, pos}
 use borrow.Author.Tests.{ltb-true}
 use Rattle.primitive.specs.declared.slots.Slot.{Slot}
 use Rattle.primitive.specs.declared.slots.Slot.the-variants.{At, Nothing}
-use Rattle.primitive.specs.declared.values.Value.{Value}
+use Rattle.values.specs.declared.Value.{Value}
 use Rattle.primitive.specs.Slots.{slotOf}
-use Rattle.primitive.specs.Values.{value, isZero}
+use Rattle.values.specs.Values.{value, isZero}
 use Rattle.trees.specs.declared.cells.Cell.{Cell}
 use Rattle.trees.specs.declared.cells.Cell.the-variants.{Constant, Read, Two, Choose, Bad}
 use Rattle.trees.specs.Cells.{cellAt, endOf}

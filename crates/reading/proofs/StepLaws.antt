@@ -7,8 +7,8 @@ use native.Mathlib.Omega.{arith}
 use lib.IntN.{ℤ, pos}
 use lib.ListN.{length, List·getD-eq-default}
 use lib.Seq.{set-out}
-use Rattle.primitive.specs.declared.values.Value.{Value}
-use Rattle.primitive.specs.Values.{value, valueAt, setValue}
+use Rattle.values.specs.declared.Value.{Value}
+use Rattle.values.specs.Values.{value, valueAt, setValue}
 use Rattle.marking.specs.Fields.{flagsOf, dirty, has}
 use Rattle.reading.specs.Tables.{State, state, Told, currentOf, pendingOf, setCurrent, setPending}
 use Rattle.reading.specs.Steps.{woken, updatedSignal, wakenIf, refreshedSignal}

@@ -6,13 +6,13 @@ use Prim.Native.Nat.{ℕ, zero, suc, _+_, _-_, _/_, _≤_}
 use native.Mathlib.Omega.{arith}
 use lib.IntN.{ℤ}
 use lib.ListN.{length}
-use Rattle.primitive.specs.Values.{value, isZero}
+use Rattle.values.specs.Values.{value, isZero}
 use Rattle.trees.specs.Cells.{arityOf, endOf}
 use Rattle.trees.specs.Trees.{Tree, constant, read, two, choose, size, nesting, apply, chosen, worth, reads}
 use Rattle.trees.proofs.Ends.{paid}
 use Rattle.trees.proofs.Laid.{Laid}
 use Rattle.trees.proofs.ScanLaws.{arity-inside, count-done}
-use Rattle.primitive.specs.declared.values.Value.{Value}
+use Rattle.values.specs.declared.Value.{Value}
 use Rattle.reading.specs.Tables.{State, Got, Evaluated, evaluated}
 use Rattle.reading.specs.Ring.{Ring, readBy, twoBy, chooseBy, cellBy, evaluatedBy}
 use Rattle.reading.specs.Works.{workedBy, readAll}

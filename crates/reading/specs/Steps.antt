@@ -4,9 +4,9 @@ use mathlib.Core.Bool.{Bool, true, false, not}
 use mathlib.Core.List.{List}
 use Rattle.primitive.specs.declared.slots.Slot.{Slot}
 use Rattle.primitive.specs.declared.slots.Slot.the-variants.{At, Nothing}
-use Rattle.primitive.specs.declared.values.Value.{Value}
+use Rattle.values.specs.declared.Value.{Value}
 use Rattle.primitive.specs.Slots.{slotOf}
-use Rattle.primitive.specs.Values.{same}
+use Rattle.values.specs.Values.{same}
 use Rattle.linking.specs.Link.{linked}
 use Rattle.linking.specs.Ring.{purged}
 use Rattle.primitive.specs.Words.{DEPS-TAIL, setNode}

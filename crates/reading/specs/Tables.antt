@@ -4,8 +4,8 @@ use mathlib.Core.Bool.{Bool}
 use mathlib.Core.List.{List}
 use lib.IntN.{ℤ}
 use lib.ListN.{getD, set}
-use Rattle.primitive.specs.declared.values.Value.{Value}
-use Rattle.primitive.specs.Values.{valueAt, setValue}
+use Rattle.values.specs.declared.Value.{Value}
+use Rattle.values.specs.Values.{valueAt, setValue}
 use Rattle.primitive.specs.Words.{CYCLE}
 
 pub record State : Type 0 where

@@ -2,7 +2,7 @@
 use Prim.Native.Nat.{ℕ}
 use mathlib.Core.Bool.{true, false}
 use mathlib.Core.List.{List, [], _∷_}
-use Rattle.primitive.specs.Values.{value, isZero}
+use Rattle.values.specs.Values.{value, isZero}
 use Rattle.trees.specs.Trees.{Tree, constant, read, two, choose, apply}
 use Rattle.reading.specs.Tables.{State, Got, got}
 use Rattle.reading.specs.Ring.{Ring, readBy}

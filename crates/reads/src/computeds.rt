@@ -1,14 +1,14 @@
 // What goes before and after the evaluation of a computed. After update_computed and the first evaluation of computed_oper.
 use crate::cycle::raise_cycle;
 use crate::places;
+use flags::Flags;
 use links::unlink::purge_deps;
 use marks::nodes::flags;
 use marks::nodes::set_flags;
-use primitive::flags::Flags;
 use primitive::rows::DEPS_TAIL;
 use primitive::rows::NODE;
-use primitive::values::Value;
 use primitive::words;
+use values::Value;
 ghost use mathlib.Core.Path.{_≡_};
 ghost use mathlib.Core.List.{List};
 ghost use Prim.Native.Nat.{ℕ};

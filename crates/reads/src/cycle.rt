@@ -1,7 +1,7 @@
 // The evaluation cycle: a word of row 0 of the link table. It is raised before each re-evaluation.
 use primitive::rows::CYCLE;
-use primitive::version::Version;
 use primitive::words;
+use version::Version;
 ghost use mathlib.Core.Path.{_≡_};
 ghost use Rattle.reading.specs.Tables.{cycleOf, raised};
 

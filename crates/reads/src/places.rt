@@ -1,6 +1,5 @@
 // The values of a node: its current one and, of a signal, the pending one, at two places of the table of values. The products cannot wrap below its length.
-use primitive::values;
-use primitive::values::Value;
+use values::Value;
 ghost use mathlib.Core.Path.{_≡_};
 ghost use Rattle.reading.specs.Tables.{currentOf, pendingOf, setCurrent, setPending};
 

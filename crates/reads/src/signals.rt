@@ -2,9 +2,9 @@
 use crate::places;
 use crate::tests::has;
 use crate::wakes::wake;
+use flags::Flags;
 use marks::nodes::flags;
 use marks::nodes::set_flags;
-use primitive::flags::Flags;
 ghost use mathlib.Core.Path.{_≡_};
 ghost use mathlib.Core.List.{List};
 ghost use Prim.Native.Nat.{ℕ};

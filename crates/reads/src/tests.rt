@@ -1,5 +1,5 @@
 // Tests of the flag byte.
-use primitive::flags::Flags;
+use flags::Flags;
 ghost use mathlib.Core.Path.{_≡_};
 ghost use Rattle.marking.specs.Fields.{has, hasOnly};
 

@@ -7,7 +7,7 @@ use Prim.Native.Nat.{ℕ}
 use lib.IntN.{ℤ, pos}
 use lib.ListN.{set}
 use Rattle.primitive.specs.Rows.{field, hasField}
-use Rattle.primitive.specs.Queue.{count, queueOf, entries, entryAt}
+use Rattle.queue.specs.Queue.{count, queueOf, entries, entryAt}
 use Rattle.trees.specs.Cells.{readOf, bareOf, codes, cellOf, nameOf, cellAt}
 use Rattle.trees.specs.Legal.{readKind, readableIn}
 use Rattle.trees.specs.Names.{named}

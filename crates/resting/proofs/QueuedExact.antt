@@ -8,7 +8,7 @@ use lib.Dec.{eqb, ltb, leb}
 use lib.ListN.{getD, length, replicate, length-replicate, getD-replicate, List·getD-eq-default}
 use borrow.Author.Tests.{eq-eqb, ne-eqb, eqb-true, eqb-false, ltb-true, ltb-false, lt-ltb, leb-true, le-leb, not-true}
 use Rattle.primitive.specs.Rows.{field}
-use Rattle.primitive.specs.Queue.{queueOf}
+use Rattle.queue.specs.Queue.{queueOf}
 use Rattle.lists.specs.Sum.{count}
 use Rattle.lists.specs.Each.{pick}
 use Rattle.lists.proofs.EachLaws.{both-true, true-both, all-map}

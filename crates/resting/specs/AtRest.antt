@@ -7,7 +7,7 @@ use Prim.Native.Nat.{ℕ, suc, _<_, _≤_}
 use lib.IntN.{ℤ}
 use lib.ListN.{getD, length}
 use Rattle.primitive.specs.Words.{SIGNAL, COMPUTED, EFFECT, SCOPE, FLAGS, KIND, GONE, DEPS, DEPS-TAIL, SUBS, SUBS-TAIL, READS, OWNER, DEPTH, QUEUE, DEP, SUB, PREV-SUB, NEXT-SUB, PREV-DEP, NEXT-DEP, FREE, node, link}
-use Rattle.primitive.specs.Queue.{queueOf}
+use Rattle.queue.specs.Queue.{queueOf}
 use Rattle.trees.specs.Legal.{readableIn}
 use Rattle.lists.specs.Sum.{All, occ}
 use Rattle.lists.specs.Walk.{slots}

@@ -5,7 +5,7 @@ use mathlib.Core.List.{List}
 use lib.Dec.{eqb, ltb, leb}
 use lib.ListN.{getD}
 use Rattle.primitive.specs.Words.{EFFECT, KIND, FLAGS, GONE, DEPTH, QUEUE, node}
-use Rattle.primitive.specs.Queue.{queueOf}
+use Rattle.queue.specs.Queue.{queueOf}
 use Rattle.lists.specs.Sum.{count}
 use Rattle.lists.specs.Walk.{leaves}
 use Rattle.lists.specs.Each.{both, pick}

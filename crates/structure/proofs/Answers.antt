@@ -8,7 +8,7 @@ use native.Mathlib.Omega.{arith}
 use lib.Dec.{ltb}
 use lib.IntN.{ℤ}
 use borrow.Author.Tests.{lt-ltb, le-ltb}
-use Rattle.primitive.specs.declared.flags.Named.{Named}
+use Rattle.flags.specs.declared.Named.{Named}
 use Rattle.marking.specs.Fields.{flagsOf, pending, hasOnly, without}
 use Rattle.reading.specs.Tables.{State, Told, told}
 use Rattle.primitive.specs.Words.{DEPS, linkRows, node}

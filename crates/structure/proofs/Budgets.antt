@@ -6,8 +6,8 @@ use mathlib.Core.List.{List, [], _∷_, _++_, reverse}
 use Prim.Native.Nat.{ℕ, _+_, _*_, _<_, _≤_}
 use lib.IntN.{ℤ}
 use lib.ListN.{length, replicate}
-use Rattle.primitive.specs.declared.flags.Named.{Named}
-use Rattle.primitive.specs.Queue.{count, reversedFrom}
+use Rattle.flags.specs.declared.Named.{Named}
+use Rattle.queue.specs.Queue.{count, reversedFrom}
 use Rattle.primitive.specs.Words.{SUB, DEPS, node, link, linkRows, nodeRows}
 use Rattle.linking.specs.Free.{slots}
 use Rattle.linking.specs.Ring.{purgedBy, disposedBy, unlinkedN}

@@ -9,8 +9,8 @@ use lib.Dec.{leb}
 use lib.IntN.{ℤ}
 use lib.ListN.{length, getD}
 use borrow.Author.Tests.{leb-true}
-use Rattle.primitive.specs.declared.flags.Named.{Named}
-use Rattle.primitive.specs.Queue.{queueOf}
+use Rattle.flags.specs.declared.Named.{Named}
+use Rattle.queue.specs.Queue.{queueOf}
 use Rattle.primitive.specs.Words.{COUNT, USED, FLAGS, KIND, GONE, DEPS, DEPS-TAIL, SUBS, SUBS-TAIL, READS, OWNER, LEVEL, DEP, SUB, PREV-SUB, NEXT-SUB, PREV-DEP, NEXT-DEP, SIGNAL, COMPUTED, EFFECT, SCOPE, FREE, node, link}
 use Rattle.trees.specs.Trees.{names}
 use Rattle.trees.specs.Legal.{readableIn, AllReadable}

@@ -6,7 +6,7 @@ use mathlib.Core.List.{List, [], _∷_, _++_}
 use Prim.Native.Nat.{ℕ, zero, suc, _+_, _<_, _≤_}
 use native.Mathlib.Omega.{arith}
 use lib.IntN.{ℤ}
-use Rattle.primitive.specs.declared.flags.Named.{Named}
+use Rattle.flags.specs.declared.Named.{Named}
 use Rattle.primitive.specs.Slots.{slotOf}
 use Rattle.primitive.specs.Words.{NEXT-SUB, PREV-SUB, SUBS, node, link}
 use Rattle.linking.specs.Free.{isLive, slots}

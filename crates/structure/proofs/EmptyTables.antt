@@ -10,9 +10,9 @@ use lib.Dec.{eqb}
 use lib.IntN.{ℤ, pos}
 use lib.ListN.{length, getD, set, length-set, List·getD-eq-default}
 use lib.Seq.{getD-set-same, getD-set-other}
-use Rattle.primitive.specs.Flags.{bit as bitAt, named}
+use Rattle.flags.specs.Flags.{bit as bitAt, named}
 use Rattle.primitive.specs.Rows.{hasField, field}
-use Rattle.primitive.specs.Values.{value, valueAt}
+use Rattle.values.specs.Values.{value, valueAt}
 use Rattle.primitive.specs.Words.{NODE, LINK, COUNT, USED, DEPTH, QUEUE, FREE, CYCLE, FLAGS, KIND, GONE, OWNER, LEVEL, VERSION, DEP, SUB, LIVE, NEXT-DEP, node, link, setLink}
 use Rattle.primitive.proofs.RowLaws.{length-setField, header-kept, field-after-header, same-field, other-field, other-record}
 use Rattle.counting.specs.Counts.{slotRoom, carryIn}

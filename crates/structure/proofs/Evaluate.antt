@@ -6,7 +6,7 @@ use Prim.Native.Nat.{ℕ, suc, _+_, _≤_}
 use native.Mathlib.Omega.{arith}
 use lib.IntN.{ℤ}
 use lib.ListN.{length, length-append}
-use Rattle.primitive.specs.Values.{isZero}
+use Rattle.values.specs.Values.{isZero}
 use Rattle.trees.specs.Trees.{Tree, constant, read, two, choose, apply, names, nesting}
 use Rattle.trees.specs.Legal.{mostNesting}
 use Rattle.trees.proofs.Laid.{Laid}

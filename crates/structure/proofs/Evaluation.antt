@@ -6,7 +6,7 @@ use Prim.Native.Nat.{ℕ, suc, _<_, _≤_}
 use native.Mathlib.Omega.{arith}
 use lib.IntN.{ℤ, pos}
 use borrow.Author.Tests.{lt-ltb}
-use Rattle.primitive.specs.Values.{value}
+use Rattle.values.specs.Values.{value}
 use Rattle.trees.specs.Trees.{Tree, names}
 use Rattle.trees.specs.Legal.{mostNesting}
 use Rattle.trees.proofs.Laid.{Laid}

@@ -5,9 +5,9 @@ use Prim.Native.Nat.{ℕ, _%_, _<_}
 use lib.Bits.{bitOr}
 use lib.Dec.{eqb, ltb}
 use borrow.Author.Tests.{eqb-true, ltb-true}
-use Rattle.primitive.specs.declared.flags.Named.{Named}
-use Rattle.primitive.specs.Flags.{bit, named}
-use Rattle.primitive.proofs.FlagLaws.{names-all}
+use Rattle.flags.specs.declared.Named.{Named}
+use Rattle.flags.specs.Flags.{bit, named}
+use Rattle.flags.proofs.FlagLaws.{names-all}
 use Rattle.marking.specs.Fields.{mutable, watching, recursedCheck, dirty, pending, busy, changed, has, lacks, hasOnly, without}
 use Rattle.meaning.specs.State.{bare, unclean, recursing, withPending, withDirty, withWatching}
 use Rattle.meaning.specs.Played.{byte}

@@ -10,11 +10,11 @@ use lib.IntN.{ℤ}
 use lib.ListN.{length, getD, set, length-set, length-append, take, drop}
 use lib.Seq.{getD-set-same, getD-set-other, getD-append-seam}
 use borrow.Author.Tests.{eqb-false, leb-true, lt-ltb, le-ltb}
-use Rattle.primitive.specs.Queue.{count, entryAt, emptied}
+use Rattle.queue.specs.Queue.{count, entryAt, emptied}
 use Rattle.primitive.specs.Rows.{field}
 use Rattle.primitive.specs.Words.{QUEUE, nodeRows}
 use Rattle.primitive.proofs.RowLaws.{field-after-header}
-use Rattle.primitive.proofs.QueueLaws.{getD-queue, queue-emptied}
+use Rattle.queue.proofs.QueueLaws.{getD-queue, queue-emptied}
 use Rattle.linking.specs.Table.{tab}
 use Rattle.reading.specs.Tables.{State, state}
 use Rattle.operating.specs.Log.{Ran, ranTo, rowed}

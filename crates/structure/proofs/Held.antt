@@ -8,9 +8,9 @@ use native.Mathlib.Omega.{arith}
 use lib.Dec.{eqb, leb}
 use lib.IntN.{ℤ}
 use lib.ListN.{length, getD, take, drop}
-use Rattle.primitive.specs.declared.flags.Named.{Named}
-use Rattle.primitive.specs.Flags.{named}
-use Rattle.primitive.specs.Queue.{count as counted, entryAt, entries, queueOf}
+use Rattle.flags.specs.declared.Named.{Named}
+use Rattle.flags.specs.Flags.{named}
+use Rattle.queue.specs.Queue.{count as counted, entryAt, entries, queueOf}
 use Rattle.primitive.specs.Words.{COUNT, USED, DEPTH, QUEUE, FLAGS, KIND, GONE, START, CELLS, READS, OWNER, LEVEL, node}
 use Rattle.trees.specs.Trees.{Tree}
 use Rattle.telling.specs.Formulas.{ownCells}

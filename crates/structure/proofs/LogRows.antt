@@ -8,7 +8,7 @@ use lib.IntN.{ℤ, pos}
 use lib.ListN.{length, take, drop, length-append, length-drop, take-append-drop}
 use lib.Seq.{take-at, drop-at, drop-drop}
 use borrow.Author.Tests.{le-leb}
-use Rattle.primitive.specs.declared.values.Value.{Value}
+use Rattle.values.specs.declared.Value.{Value}
 use Rattle.reading.specs.Tables.{State}
 use Rattle.operating.specs.Log.{Ran, ranTo, numberWord, rowed, rowsIn}
 use Rattle.meaning.specs.State.{St, Row}

@@ -6,10 +6,10 @@ use mathlib.Core.Option.{Option, none, some}
 use Prim.Native.Nat.{ℕ, suc, min}
 use native.Mathlib.Omega.{arith}
 use lib.IntN.{ℤ, pos}
-use Rattle.primitive.specs.declared.flags.Named.{Named}
-use Rattle.primitive.specs.declared.values.Value.{Value}
+use Rattle.flags.specs.declared.Named.{Named}
+use Rattle.values.specs.declared.Value.{Value}
 use Rattle.primitive.specs.Slots.{slotOf}
-use Rattle.primitive.specs.Values.{value}
+use Rattle.values.specs.Values.{value}
 use Rattle.primitive.specs.Words.{SIGNAL, COMPUTED, EFFECT, SCOPE, LEVEL, node as word}
 use Rattle.trees.specs.Trees.{Tree, constant, written, names}
 use Rattle.trees.specs.Names.{tallest, tallestIn, heightIn, mostHeight}

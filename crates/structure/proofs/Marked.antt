@@ -7,8 +7,8 @@ use native.Mathlib.Omega.{arith}
 use lib.Dec.{eqb}
 use lib.IntN.{ℤ}
 use lib.ListN.{length, getD}
-use Rattle.primitive.specs.declared.flags.Named.{Named}
-use Rattle.primitive.specs.Flags.{named}
+use Rattle.flags.specs.declared.Named.{Named}
+use Rattle.flags.specs.Flags.{named}
 use Rattle.primitive.specs.Rows.{hasField, field}
 use Rattle.primitive.specs.Words.{COUNT, USED, DEPTH, QUEUE, FLAGS, KIND, GONE, START, CELLS, READS, OWNER, LEVEL, DEPS, DEPS-TAIL, SUBS, SUBS-TAIL, NEXT-DEP, NEXT-SUB, node}
 use Rattle.primitive.proofs.RowLaws.{other-record, other-field, length-setField, header-kept}

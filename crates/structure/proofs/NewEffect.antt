@@ -7,8 +7,8 @@ use Prim.Native.Nat.{ℕ, _+_, _*_, _^_, _<_, _≤_}
 use native.Mathlib.Omega.{arith}
 use lib.IntN.{ℤ, pos}
 use lib.ListN.{length}
-use Rattle.primitive.specs.declared.values.Value.{Value}
-use Rattle.primitive.specs.Values.{value}
+use Rattle.values.specs.declared.Value.{Value}
+use Rattle.values.specs.Values.{value}
 use Rattle.primitive.specs.Words.{EFFECT}
 use Rattle.trees.specs.Trees.{Tree, written, names}
 use Rattle.reading.specs.Tables.{State, state}

@@ -9,15 +9,15 @@ use native.Mathlib.Omega.{arith}
 use lib.Dec.{eqb, ltb}
 use lib.ListN.{length-reverse, length, getD, take, drop, length-append, length-set}
 use lib.Seq.{getD-set-same}
-use Rattle.primitive.specs.declared.flags.Named.{Named}
+use Rattle.flags.specs.declared.Named.{Named}
 use Rattle.primitive.specs.declared.slots.Slot.{Slot}
 use Rattle.primitive.specs.declared.slots.Slot.the-variants.{At, Nothing}
-use Rattle.primitive.specs.Flags.{named}
-use Rattle.primitive.specs.Queue.{count, entryAt, pushed, swapped, reversed, reversedFrom}
+use Rattle.flags.specs.Flags.{named}
+use Rattle.queue.specs.Queue.{count, entryAt, pushed, swapped, reversed, reversedFrom}
 use Rattle.primitive.specs.Slots.{slotOf}
 use Rattle.primitive.specs.Words.{QUEUE, FLAGS, SUB, SUBS, node, link, setNode, nodeRows}
 use Rattle.primitive.proofs.RowLaws.{other-field, length-setField, header-kept, field-after-header}
-use Rattle.primitive.proofs.QueueLaws.{pushed-room, queue-pushed, queue-reversed}
+use Rattle.queue.proofs.QueueLaws.{pushed-room, queue-pushed, queue-reversed}
 use Rattle.marking.specs.Fields.{flagsOf, setFlags, sub, subs, watching, lacks, without}
 use Rattle.marking.specs.Notify.{queued, ownerOf, climbed, notified}
 use Rattle.meaning.specs.State.{St, up, deps, readable, withWatching}

@@ -8,8 +8,8 @@ use native.Mathlib.Omega.{arith}
 use lib.IntN.{ℤ, pos, negsuc}
 use lib.ListN.{length, drop}
 use borrow.Author.Tests.{leb-false, not-true}
-use Rattle.primitive.specs.declared.values.Value.{Value}
-use Rattle.primitive.specs.Values.{value}
+use Rattle.values.specs.declared.Value.{Value}
+use Rattle.values.specs.Values.{value}
 use Rattle.trees.specs.Trees.{Tree, constant, written, names}
 use Rattle.linking.specs.Table.{tab}
 use Rattle.reading.specs.Tables.{State}

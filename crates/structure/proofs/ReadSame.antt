@@ -6,7 +6,7 @@ use mathlib.Core.Bool.{true, false}
 use mathlib.Core.List.{List, []}
 use Prim.Native.Nat.{ℕ, _<_}
 use lib.IntN.{ℤ}
-use Rattle.primitive.specs.declared.flags.Named.{Named}
+use Rattle.flags.specs.declared.Named.{Named}
 use Rattle.reading.specs.Tables.{State, state}
 use Rattle.reading.specs.Read.{readOf}
 use Rattle.meaning.specs.State.{St, readable}

@@ -7,8 +7,8 @@ use Prim.Native.Nat.{ℕ, _<_}
 use native.Mathlib.Omega.{arith}
 use lib.Dec.{eqb}
 use lib.IntN.{ℤ}
-use Rattle.primitive.specs.declared.flags.Named.{Named}
-use Rattle.primitive.specs.Flags.{bit, named}
+use Rattle.flags.specs.declared.Named.{Named}
+use Rattle.flags.specs.Flags.{bit, named}
 use Rattle.primitive.specs.Words.{SIGNAL, COMPUTED}
 use Rattle.linking.specs.Table.{tab}
 use Rattle.marking.specs.Fields.{flagsOf, setFlags, dirty, pending, has, without}

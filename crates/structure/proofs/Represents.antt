@@ -7,8 +7,8 @@ use native.Mathlib.Omega.{arith}
 use lib.IntN.{ℤ, pos}
 use lib.ListN.{length, getD}
 use borrow.Author.Tests.{lt-ltb, le-ltb, le-leb}
-use Rattle.primitive.specs.Flags.{bit as bitAt, named}
-use Rattle.primitive.specs.Queue.{count, queueOf}
+use Rattle.flags.specs.Flags.{bit as bitAt, named}
+use Rattle.queue.specs.Queue.{count, queueOf}
 use Rattle.primitive.specs.Words.{COUNT, USED, QUEUE, FLAGS, KIND, GONE, DEPS, DEPS-TAIL, SUBS, SUBS-TAIL, OWNER, DEP, SUB, PREV-SUB, NEXT-SUB, PREV-DEP, NEXT-DEP, FREE, node, link}
 use Rattle.trees.specs.Trees.{Tree, constant}
 use Rattle.counting.specs.Counts.{carryIn, countedIn}

@@ -9,10 +9,10 @@ use lib.Dec.{eqb}
 use lib.IntN.{ℤ}
 use borrow.Author.Tests.{eq-eqb, ne-eqb}
 use lib.ListN.{length, length-append}
-use Rattle.primitive.specs.declared.flags.Named.{Named}
+use Rattle.flags.specs.declared.Named.{Named}
 use Rattle.primitive.specs.declared.slots.Slot.{Slot}
 use Rattle.primitive.specs.declared.slots.Slot.the-variants.{Nothing}
-use Rattle.primitive.specs.Flags.{bit, named}
+use Rattle.flags.specs.Flags.{bit, named}
 use Rattle.primitive.specs.Slots.{slotOf}
 use Rattle.primitive.specs.Words.{NEXT-DEP, DEPS, DEPS-TAIL, PREV-SUB, NEXT-SUB, SUBS, node, link, setNode}
 use Rattle.linking.specs.Free.{isLive}

@@ -6,8 +6,8 @@ use mathlib.Core.List.{List, [], _∷_, _++_}
 use Prim.Native.Nat.{ℕ, _%_, _<_}
 use native.Mathlib.Omega.{arith}
 use lib.IntN.{ℤ}
-use Rattle.primitive.specs.declared.flags.Named.{Named}
-use Rattle.primitive.specs.Flags.{bit, named}
+use Rattle.flags.specs.declared.Named.{Named}
+use Rattle.flags.specs.Flags.{bit, named}
 use Rattle.linking.specs.Table.{tab}
 use Rattle.marking.specs.Fields.{flagsOf, setFlags, watching, recursedCheck, dirty, pending, has, without}
 use Rattle.reading.specs.Tables.{State, state, Told, told}

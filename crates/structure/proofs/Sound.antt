@@ -8,9 +8,9 @@ use Prim.Native.Nat.{ℕ, suc, _%_, _≤_, _<_}
 use native.Mathlib.Omega.{arith}
 use lib.IntN.{ℤ, pos}
 use lib.ListN.{length, getD}
-use Rattle.primitive.specs.declared.flags.Named.{Named}
-use Rattle.primitive.specs.Flags.{bit as bitAt, named}
-use Rattle.primitive.specs.Queue.{queueOf}
+use Rattle.flags.specs.declared.Named.{Named}
+use Rattle.flags.specs.Flags.{bit as bitAt, named}
+use Rattle.queue.specs.Queue.{queueOf}
 use Rattle.primitive.specs.Words.{COUNT, FLAGS, KIND, GONE, DEPS, DEPS-TAIL, SUBS, SUBS-TAIL, OWNER, LEVEL, DEP, SUB, PREV-SUB, NEXT-SUB, PREV-DEP, NEXT-DEP, SIGNAL, COMPUTED, EFFECT, SCOPE, FREE, node, link}
 use Rattle.trees.specs.Trees.{Tree, constant, names, size, nesting}
 use Rattle.trees.specs.Legal.{readableIn, AllReadable, mostCells, mostNesting}

@@ -8,10 +8,10 @@ use lib.Dec.{eqb}
 use lib.IntN.{ℤ, pos}
 use lib.ListN.{length, getD, set, length-set}
 use lib.Seq.{getD-set-same, getD-set-other}
-use Rattle.primitive.specs.declared.flags.Named.{Named}
-use Rattle.primitive.specs.declared.values.Value.{Value}
-use Rattle.primitive.specs.Flags.{bit, named}
-use Rattle.primitive.specs.Values.{value, valueAt, setValue, same}
+use Rattle.flags.specs.declared.Named.{Named}
+use Rattle.values.specs.declared.Value.{Value}
+use Rattle.flags.specs.Flags.{bit, named}
+use Rattle.values.specs.Values.{value, valueAt, setValue, same}
 use Rattle.primitive.specs.Words.{CYCLE, FREE, LIVE, VERSION, DEP, SUB, PREV-DEP, NEXT-DEP, DEPS, DEPS-TAIL, PREV-SUB, NEXT-SUB, SUBS, link, setNode}
 use Rattle.primitive.proofs.RowLaws.{field-after-header}
 use Rattle.linking.specs.Free.{isLive}

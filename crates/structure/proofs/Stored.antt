@@ -7,8 +7,8 @@ use native.Mathlib.Omega.{arith}
 use lib.Dec.{eqb}
 use lib.IntN.{ℤ}
 use borrow.Author.Tests.{eqb-true, eqb-false}
-use Rattle.primitive.specs.declared.flags.Named.{Named}
-use Rattle.primitive.specs.Flags.{named}
+use Rattle.flags.specs.declared.Named.{Named}
+use Rattle.flags.specs.Flags.{named}
 use Rattle.primitive.specs.Rows.{hasField}
 use Rattle.primitive.specs.Words.{PREV-DEP, NEXT-DEP, DEPS, DEPS-TAIL, NEXT-SUB, SUBS, SUBS-TAIL, FLAGS, GONE, KIND, OWNER, LEVEL, node, link, setNode}
 use Rattle.primitive.proofs.RowLaws.{other-record, other-field}

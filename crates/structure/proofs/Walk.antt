@@ -10,12 +10,12 @@ use lib.Bits.{bitOr}
 use lib.IntN.{ℤ}
 use lib.ListN.{length, getD, set, replicate, length-append, length-set, length-replicate, length-reverse}
 use lib.Seq.{getD-set-same}
-use Rattle.primitive.specs.declared.flags.Named.{Named}
+use Rattle.flags.specs.declared.Named.{Named}
 use Rattle.primitive.specs.declared.slots.Slot.the-variants.{At, Nothing}
 use Rattle.primitive.specs.Slots.{slotOf}
-use Rattle.primitive.specs.Stack.{pushed, pushedLen}
+use Rattle.stack.specs.Stack.{pushed, pushedLen}
 use Rattle.primitive.specs.Words.{SUB, link, linkRows}
-use Rattle.primitive.proofs.StackLaws.{len-room, below-kept}
+use Rattle.stack.proofs.StackLaws.{len-room, below-kept}
 use Rattle.linking.specs.Table.{Tab, tab}
 use Rattle.marking.specs.Fields.{flagsOf, setFlags, subs, nextSub, mutable, watching, pending, busy, changed, has, lacks}
 use Rattle.marking.specs.Notify.{notified}

@@ -12,7 +12,7 @@ use lib.ListN.{length, getD, take, drop, length-take, take-append-drop}
 use lib.Seq.{drop-append-le}
 use borrow.Author.Tests.{lt-ltb, le-ltb, ltb-true, le-leb, eq-eqb, ne-eqb, eqb-true, not-true, not-false}
 use Rattle.primitive.specs.Words.{COUNT, USED, QUEUE, KIND, START, CELLS, LEVEL, DEP, node, link}
-use Rattle.primitive.specs.Queue.{count as queueLength, entries, queueOf}
+use Rattle.queue.specs.Queue.{count as queueLength, entries, queueOf}
 use Rattle.trees.specs.Trees.{Tree, written, names}
 use Rattle.trees.specs.Legal.{readKind, readableIn}
 use Rattle.trees.specs.Names.{named, tallest}

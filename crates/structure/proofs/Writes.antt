@@ -7,10 +7,10 @@ use native.Mathlib.Omega.{arith}
 use lib.IntN.{ℤ}
 use lib.ListN.{length}
 use borrow.Author.Tests.{eq-eqb, ne-eqb}
-use Rattle.primitive.specs.declared.values.Value.{Value}
-use Rattle.primitive.specs.Flags.{bit, named}
+use Rattle.values.specs.declared.Value.{Value}
+use Rattle.flags.specs.Flags.{bit, named}
 use Rattle.primitive.specs.Slots.{slotOf}
-use Rattle.primitive.specs.Values.{same, sum}
+use Rattle.values.specs.Values.{same, sum}
 use Rattle.linking.specs.Table.{tab}
 use Rattle.marking.specs.Walks.{propagated}
 use Rattle.reading.specs.Tables.{State, state, pendingOf, setPending}

@@ -7,7 +7,7 @@ use mathlib.Core.List.{List}
 use Prim.Native.Nat.{ℕ, _<_}
 use lib.IntN.{ℤ}
 use lib.ListN.{length, getD}
-use Rattle.primitive.specs.Queue.{queueOf}
+use Rattle.queue.specs.Queue.{queueOf}
 use Rattle.primitive.specs.Words.{COUNT, USED, DEPTH, QUEUE, CYCLE, FREE, FLAGS, KIND, GONE, DEPS, DEPS-TAIL, SUBS, SUBS-TAIL, CELLS, READS, OWNER, LEVEL, VERSION, DEP, SUB, PREV-SUB, NEXT-SUB, PREV-DEP, NEXT-DEP, node, link}
 use Rattle.linking.specs.Free.{isLive}
 use Rattle.reading.specs.Tables.{currentOf, pendingOf}

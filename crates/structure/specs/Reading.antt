@@ -6,8 +6,8 @@ use Prim.Native.Nat.{ℕ, zero, suc}
 use lib.Dec.{eqb, ltb}
 use lib.IntN.{ℤ, pos}
 use lib.ListN.{getD}
-use Rattle.primitive.specs.Flags.{named}
-use Rattle.primitive.specs.Queue.{queueOf}
+use Rattle.flags.specs.Flags.{named}
+use Rattle.queue.specs.Queue.{queueOf}
 use Rattle.primitive.specs.Words.{COUNT, USED, DEPTH, KIND, GONE, OWNER, LEVEL, VERSION, DEP, SUB, node, link}
 use Rattle.trees.specs.Trees.{Tree, constant}
 use Rattle.linking.specs.Free.{isLive}

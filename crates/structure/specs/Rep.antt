@@ -8,10 +8,10 @@ use Prim.Native.Nat.{ℕ, zero, suc, _+_, _*_, _<_, _≤_}
 use lib.Dec.{eqb}
 use lib.IntN.{ℤ, pos}
 use lib.ListN.{length, getD}
-use Rattle.primitive.specs.declared.flags.Named.{Named}
-use Rattle.primitive.specs.declared.values.Value.{Value}
-use Rattle.primitive.specs.Flags.{named}
-use Rattle.primitive.specs.Queue.{queueOf}
+use Rattle.flags.specs.declared.Named.{Named}
+use Rattle.values.specs.declared.Value.{Value}
+use Rattle.flags.specs.Flags.{named}
+use Rattle.queue.specs.Queue.{queueOf}
 use Rattle.primitive.specs.Words.{NODE, LINK, COUNT, USED, DEPTH, QUEUE, FLAGS, KIND, GONE, START, CELLS, READS, OWNER, LEVEL, VERSION, DEP, SUB, NEXT-DEP, FREE, SIGNAL, COMPUTED, EFFECT, SCOPE, node, link}
 use Rattle.trees.specs.Trees.{Tree, constant, written, size, names}
 use Rattle.linking.specs.Free.{isLive}

@@ -1,5 +1,10 @@
 pub mod Rings
 pub mod OfPrimitive
+pub mod OfFlags
+pub mod OfVersion
+pub mod OfValues
+pub mod OfQueue
+pub mod OfStack
 pub mod OfFormula
 pub mod OfLinks
 pub mod OfMarks

@@ -1,6 +1,5 @@
 // The tables as text, as oracle/README.md sets it out.
 use libc::STDOUT_FILENO;
-use primitive::queue;
 use primitive::rows::COMPUTED;
 use primitive::rows::CYCLE;
 use primitive::rows::DEP;
@@ -16,7 +15,6 @@ use primitive::rows::SIGNAL;
 use primitive::rows::SUB;
 use primitive::rows::SUBS;
 use primitive::rows::VERSION;
-use primitive::values;
 use primitive::words;
 use stream::Sink;
 use stream::send;

@@ -5,9 +5,9 @@ use mathlib.Core.List.{List, [], _∷_, _++_}
 use Prim.Native.Nat.{ℕ, zero, suc}
 use lib.IntN.{ℤ, pos, negsuc}
 use lib.ListN.{replicate}
-use Rattle.primitive.specs.declared.values.Value.{Value}
+use Rattle.values.specs.declared.Value.{Value}
 use Rattle.primitive.specs.Rows.{hasField, field}
-use Rattle.primitive.specs.Values.{value, greatest, clamp, sum, difference, minimum, maximum, less, isZero, same, sameNumber}
+use Rattle.values.specs.Values.{value, greatest, clamp, sum, difference, minimum, maximum, less, isZero, same, sameNumber}
 use Rattle.trees.specs.declared.cells.Op.the-variants.{Sum, Difference, Minimum, Maximum, Less}
 use Rattle.trees.specs.Cells.{readOf, bareOf, codes, cellOf, arityOf, nameOf, cellAt, settled, endOf}
 use Rattle.trees.specs.Legal.{readKind, readableIn, knownIn, takesIn, inTurn, oneAt, legalIn}

@@ -4,8 +4,8 @@ use mathlib.Core.Logic.{_⊎_, inl, inr}
 use mathlib.Core.Bool.{Bool, true, false}
 use mathlib.Core.List.{List, [], _∷_, _++_}
 use Prim.Native.Nat.{ℕ}
-use Rattle.primitive.specs.declared.values.Value.{Value}
-use Rattle.primitive.specs.Values.{isZero}
+use Rattle.values.specs.declared.Value.{Value}
+use Rattle.values.specs.Values.{isZero}
 use Rattle.trees.specs.Trees.{Tree, constant, read, two, choose, apply, chosen, worth, reads}
 
 -- two environments agree on every node of a list

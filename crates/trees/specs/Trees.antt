@@ -3,8 +3,8 @@ use mathlib.Core.Bool.{Bool, true, false}
 use mathlib.Core.List.{List, [], _∷_, _++_}
 use Prim.Native.Nat.{ℕ, suc, _+_, max}
 use lib.IntN.{ℤ, pos}
-use Rattle.primitive.specs.declared.values.Value.{Value}
-use Rattle.primitive.specs.Values.{value, sum, difference, minimum, maximum, less, isZero}
+use Rattle.values.specs.declared.Value.{Value}
+use Rattle.values.specs.Values.{value, sum, difference, minimum, maximum, less, isZero}
 use Rattle.trees.specs.declared.cells.Op.{Op}
 use Rattle.trees.specs.declared.cells.Op.the-variants.{Sum, Difference, Minimum, Maximum, Less}
 

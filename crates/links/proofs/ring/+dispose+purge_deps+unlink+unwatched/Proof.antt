@@ -33,7 +33,7 @@ use Rattle.links.proofs.ring.is_mutable.Reads as is-mutable-reads
 use Rattle.links.proofs.ring.is_only.Reads as is-only-reads
 use Rattle.links.proofs.ring.reset.Reads as reset-reads
 use Rattle.links.proofs.ring.retire.Reads as retire-reads
-use Rattle.primitive.proofs.flags.Flags.join.Reads as join-reads
+use Rattle.flags.proofs.Flags.join.Reads as join-reads
 use Rattle.primitive.proofs.slots.open.Reads as open-reads
 use Rattle.primitive.proofs.words.get.Reads as get-reads
 use Rattle.links.proofs.ring.+dispose+purge_deps+unlink+unwatched.{statement}

@@ -2,7 +2,7 @@
 use mathlib.Core.Path.{ap, _∙_}
 use Prim.Native.Nat.{ℕ, _%_}
 use lib.Bits.{bitAnd}
-use Rattle.primitive.proofs.FlagLaws.{tells}
+use Rattle.flags.proofs.FlagLaws.{tells}
 use Rattle.linking.specs.Ring.{isMutable}
 use borrow.Author.Needs.{needs}
 use Rattle.links.proofs.ring.is_mutable.Statement.{statement}

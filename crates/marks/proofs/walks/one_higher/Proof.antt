@@ -5,7 +5,7 @@ use native.Mathlib.Numerals.{add-one}
 use native.Mathlib.Omega.{arith}
 use lib.ListN.{length, length-replicate}
 use borrow.Author.Needs.{needs}
-use Rattle.primitive.proofs.StackLaws.{len-room, len-full}
+use Rattle.stack.proofs.StackLaws.{len-room, len-full}
 use Rattle.marking.specs.Walks.{blank}
 use Rattle.marks.proofs.walks.one_higher.Statement.{statement}
 use Rattle.marks.proofs.walks.one_higher.Tie as tie

@@ -4,7 +4,7 @@ use mathlib.Core.Path.{_≡_, refl, sym, ap, _∙_}
 use mathlib.Core.List.{List}
 use Prim.Native.Nat.{ℕ, _-_}
 use lib.ListN.{length}
-use Rattle.primitive.specs.Stack.{pushed, pushedLen}
+use Rattle.stack.specs.Stack.{pushed, pushedLen}
 use Rattle.marking.specs.Walks.{place, along, walked, blank, propagated}
 use Rattle.marking.proofs.WalkLaws.{down-push, down-flat, walk-end, turn-down, turn-flat, along-slot, along-none, push-nothing, back-nothing}
 use borrow.Author.Needs.{needs}

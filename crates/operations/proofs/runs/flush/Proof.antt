@@ -6,7 +6,7 @@ use lib.ListN.{length, drop, length-drop}
 use borrow.Author.Needs.{needs}
 use borrow.Rule.Slice.PartMut.{same-len-mid}
 use Rattle.primitive.specs.Words.{nodeRows}
-use Rattle.primitive.specs.Queue.{count}
+use Rattle.queue.specs.Queue.{count}
 use Rattle.reading.specs.Tables.{state}
 use Rattle.operating.specs.Log.{Ran, ranTo}
 use Rattle.operating.specs.Runs.{flushedFrom, cleared, flushed}

@@ -3,7 +3,7 @@ use mathlib.Core.Path.{_≡_, refl, ap, _∙_}
 use mir.Facts.{toZ-ofZ}
 use mir.Syntax.{w64}
 use mir.Val.{toZ, ofZ}
-use Rattle.primitive.specs.Values.{value}
+use Rattle.values.specs.Values.{value}
 use native.Mathlib.Omega.{arith}
 use lib.ListN.{length}
 use Rattle.reading.specs.Tables.{state, rankOf}
@@ -66,11 +66,11 @@ use Rattle.formula.proofs.cells.end.Reads as end-reads
 use Rattle.links.proofs.link.link.Reads as link-reads
 use Rattle.marks.proofs.nodes.flags.Reads as flags-reads
 use Rattle.marks.proofs.nodes.set_flags.Reads as set-flags-reads
-use Rattle.primitive.proofs.flags.Flags.clear.Reads as clear-reads
-use Rattle.primitive.proofs.flags.Flags.is_zero.Reads as flags-Flags-is-zero-reads
+use Rattle.flags.proofs.Flags.clear.Reads as clear-reads
+use Rattle.flags.proofs.Flags.is_zero.Reads as flags-Flags-is-zero-reads
 use Rattle.primitive.proofs.slots.open.Reads as open-reads
-use Rattle.primitive.proofs.values.Value.is_zero.Reads as values-Value-is-zero-reads
-use Rattle.primitive.proofs.values.Value.of.Reads as of-reads
+use Rattle.values.proofs.Value.is_zero.Reads as values-Value-is-zero-reads
+use Rattle.values.proofs.Value.of.Reads as of-reads
 use Rattle.primitive.proofs.words.get.Reads as get-reads
 use Rattle.reads.proofs.computeds.begin.Reads as begin-reads
 use Rattle.reads.proofs.computeds.begin_first.Reads as begin-first-reads
