@@ -72,8 +72,8 @@ for room in ROOMS:
 print(open(os.path.join(os.path.dirname(sys.argv[0]), 'diff-meaning-head.txt')).read().replace('diff-meaning.py.', 'diff-meaning.py with seed %s.' % seed, 1))
 for i, s in enumerate(found): print(written(i, *s))
 print('abbrev scripts : List Script\nscripts = %s\n' % L('script%d' % i for i in range(len(found))))
-print('pub all-played : Played scripts\n' + open(os.path.join(os.path.dirname(sys.argv[0]), 'diff-meaning-unfolding.txt')).read().rstrip())
-print('all-played = ' + '(refl, refl, ' * len(found) + 'tt' + ')' * len(found))
+print('all-agree : Agree scripts\n' + open(os.path.join(os.path.dirname(sys.argv[0]), 'diff-meaning-unfolding.txt')).read().rstrip())
+print('all-agree = ' + '(refl, ' * len(found) + 'tt' + ')' * len(found) + '\n\npub all-played : Played scripts\nall-played = agree-played scripts all-agree')
 counts = {}
 for _, _, told, _ in found:
     for c, _, _ in told: counts[c] = counts.get(c, 0) + 1

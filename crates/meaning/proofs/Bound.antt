@@ -38,6 +38,10 @@ use Rattle.meaning.proofs.Rows.{flush-rows}
 abbrev pub Bound : St → St → Type 0
 Bound s t = (e : ℕ) → e < s .size → s .kind e ≡ effect → t .gone e ≡ false → (In e (whos (t .log)) → ⊥) → ReadsStay s t e
 
+-- as a record: the two ways of a test are then compared by their states, not column by column
+record Bounds (s t : St) : Type 0 where
+  stay : Bound s t
+
 module _ (s : St) (rows : ℕ) (w : WellFormed s) where
   abbrev v : Sight
   v = sightOf s rows
@@ -81,13 +85,13 @@ module _ (s : St) (rows : ℕ) (w : WellFormed s) where
   stored : (n : ℕ) (x : Value) → (n < s .size) × (aSignal (s .kind n) ≡ true) → Bound s (store (withLog s []) n x)
   unfolding store
   stored n x k =
-      provided-so (Bound s) (aSignal (s .kind n)) (k .1)
-      (branch (Bound s) (same (s .pend n) x) (λ e. by-same _ refl (λ m lo ke a. record { links = refl; ends = λ l j. (refl, refl) }))
-      (λ e. branch (Bound s) (isNil (s .subs n)) (λ f. by-same _ refl (λ m lo ke a. record { links = refl; ends = λ l j. (refl, refl) })) (λ f. go (s .depth))))
+      provided-so (Bounds s) (aSignal (s .kind n)) (k .1)
+      (branch (Bounds s) (same (s .pend n) x) (λ e. record { stay = by-same _ refl (λ m lo ke a. record { links = refl; ends = λ l j. (refl, refl) }) })
+      (λ e. branch (Bounds s) (isNil (s .subs n)) (λ f. record { stay = by-same _ refl (λ m lo ke a. record { links = refl; ends = λ l j. (refl, refl) }) }) (λ f. go (s .depth)))) .stay
     where
-      go : (d : ℕ) → Bound s (flushAt (propagate (setFl (setPend (withLog s []) n x) n f17) n) d)
-      go zero = flushed _ (i-propagated g st (withLog s []) n x i (k .0) (is-signal s rows w (s .kind n) (k .1)) .inside) refl refl refl refl refl
-      go (suc d) = by-same _ refl (λ m lo ke a. record { links = refl; ends = λ l j. (refl, refl) })
+      go : (d : ℕ) → Bounds s (flushAt (propagate (setFl (setPend (withLog s []) n x) n f17) n) d)
+      go zero = record { stay = flushed (propagate (setFl (setPend (withLog s []) n x) n f17) n) (i-propagated g st (withLog s []) n x i (k .0) (is-signal s rows w (s .kind n) (k .1)) .inside) refl refl refl refl refl }
+      go (suc d) = record { stay = by-same (propagate (setFl (setPend (withLog s []) n x) n f17) n) refl (λ m lo ke a. record { links = refl; ends = λ l j. (refl, refl) }) }
 
   ends-bound : (d : ℕ) → Bound s (endAt (withLog s []) d)
   ends-bound zero = by-same _ refl (λ m lo ke a. record { links = refl; ends = λ l j. (refl, refl) })

@@ -17,6 +17,10 @@ use Rattle.meaning.proofs.Inside.{nobody, Static, Inside}
 use Rattle.meaning.proofs.Marking.{stuck-inside}
 use Rattle.meaning.proofs.Walking.{propagate-inside}
 
+-- the same flags; a record, so that the ways of a test are compared by name
+record SameFl (x y : Marks) : Type 0 where
+  flags : x .fl ≡ y .fl
+
 module _ (s : St) (c : Bool) where
   abbrev t : St
   t = withStuck s c
@@ -29,23 +33,22 @@ module _ (s : St) (c : Bool) where
   unfolding mark notify
   mark-alike m u b = branches Alike (m .fl u .watching) (λ e. (_, refl)) (λ e. (b, refl))
 
-  prop-alike : (k : ℕ) (m : Marks) (w : List ℕ) (st : List (List ℕ)) (b : Bool) → prop (withStuck s c) k (marks (m .fl) (m .queue) b) w st .fl ≡ prop s k m w st .fl
+  prop-alike : (k : ℕ) (m : Marks) (w : List ℕ) (st : List (List ℕ)) (b : Bool) → SameFl (prop (withStuck s c) k (marks (m .fl) (m .queue) b) w st) (prop s k m w st)
   unfolding prop
-  prop-alike zero m w st b = refl
-  prop-alike (suc k) m [] [] b = refl
+  prop-alike zero m w st b = record { flags = refl }
+  prop-alike (suc k) m [] [] b = record { flags = refl }
   prop-alike (suc k) m [] (w ∷ st) b = prop-alike k m w st b
   prop-alike (suc k) m (l ∷ w) st b =
       let u = s .sub l in
       let n = mark-alike m u b in
-      let P : Marks → Marks → Type 0 = λ x y. x .fl ≡ y .fl in
-      branches P (recursing (m .fl u)) (λ e. refl)
-      (λ e. branches P (unclean (m .fl u)) (λ a. prop-alike k m w st b)
-      (λ a. branches P (m .fl u .mutable)
-      (λ d. branches P (several (s .subs u))
-      (λ f. subst (λ (z : Marks). prop (withStuck s c) k (halt z (stackFull s st)) (s .subs u) (w ∷ st) .fl ≡ prop s k (halt (mark s m u) (stackFull s st)) (s .subs u) (w ∷ st) .fl) (sym (n .1))
+      branches SameFl (recursing (m .fl u)) (λ e. record { flags = refl })
+      (λ e. branches SameFl (unclean (m .fl u)) (λ a. prop-alike k m w st b)
+      (λ a. branches SameFl (m .fl u .mutable)
+      (λ d. branches SameFl (several (s .subs u))
+      (λ f. subst (λ (z : Marks). SameFl (prop (withStuck s c) k (halt z (stackFull s st)) (s .subs u) (w ∷ st)) (prop s k (halt (mark s m u) (stackFull s st)) (s .subs u) (w ∷ st))) (sym (n .1))
       (prop-alike k (halt (mark s m u) (stackFull s st)) (s .subs u) (w ∷ st) (n .0 || stackFull s st)))
-      (λ f. subst (λ (z : Marks). prop (withStuck s c) k z (s .subs u ++ w) st .fl ≡ prop s k (mark s m u) (s .subs u ++ w) st .fl) (sym (n .1)) (prop-alike k (mark s m u) (s .subs u ++ w) st (n .0))))
-      (λ d. subst (λ (z : Marks). prop (withStuck s c) k z w st .fl ≡ prop s k (mark s m u) w st .fl) (sym (n .1)) (prop-alike k (mark s m u) w st (n .0)))))
+      (λ f. subst (λ (z : Marks). SameFl (prop (withStuck s c) k z (s .subs u ++ w) st) (prop s k (mark s m u) (s .subs u ++ w) st)) (sym (n .1)) (prop-alike k (mark s m u) (s .subs u ++ w) st (n .0))))
+      (λ d. subst (λ (z : Marks). SameFl (prop (withStuck s c) k z w st) (prop s k (mark s m u) w st)) (sym (n .1)) (prop-alike k (mark s m u) w st (n .0)))))
 
   reached-there : (d u : ℕ) → Reached (withStuck s c) d u → Reached s d u
   reached-there d u (near l i q e) = near l i q e
@@ -62,7 +65,7 @@ marks-exactly g st s d i h r un u =
     let t = withStuck s false in
     let w = propagate-inside g st t d (stuck-inside g nobody s false i) h r un in
     let m = marks-reached t d (w .stuck) u in
-    let e : propagate t d .fl u .pending ≡ propagate s d .fl u .pending = ap (λ (f : ℕ → Named). f u .pending) (prop-alike s false (turns s) (marksOf s) (s .subs d) [] false) in
+    let e : propagate t d .fl u .pending ≡ propagate s d .fl u .pending = ap (λ (f : ℕ → Named). f u .pending) (prop-alike s false (turns s) (marksOf s) (s .subs d) [] false .flags) in
     (λ p. there (m .0 (e ∙ p)), λ p. sym e ∙ m .1 (here p))
   where
     there : (s .fl u .pending ≡ true) ⊎ Reached (withStuck s false) d u → (s .fl u .pending ≡ true) ⊎ Reached s d u

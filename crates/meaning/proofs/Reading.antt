@@ -337,8 +337,8 @@ module _ (g : Given) (st : Static g) where
         let v = evalBy (readW fr u) c s .val in
         let t = evalBy (readW fr u) c s .st in
         let all = i + length (names c ++ (names a ++ names b)) in
-        branch (λ (y : Out). During X u s₀ all (y .st)) (isZero v)
-        (λ e. later (i + length (names c) + length (names b)) all _ (omega arith)
+        branch (λ (y : Out). During X u s₀ all (y .st)) (isZero v) {x = evalBy (readW fr u) b t} {y = evalBy (readW fr u) a t}
+        (λ e. later (i + length (names c) + length (names b)) all (evalBy (readW fr u) b t .st) (omega arith)
         (eval-during k fr frs le b (λ m z. sub m (in-right m (names c) (names a ++ names b) (in-right m (names a) (names b) z))) (i + length (names c)) t (omega arith) x))
-        (λ e. later (i + length (names c) + length (names a)) all _ (omega arith)
+        (λ e. later (i + length (names c) + length (names a)) all (evalBy (readW fr u) a t .st) (omega arith)
         (eval-during k fr frs le a (λ m z. sub m (in-right m (names c) (names a ++ names b) (in-left m (names a) (names b) z))) (i + length (names c)) t (omega arith) x))

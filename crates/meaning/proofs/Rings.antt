@@ -124,15 +124,24 @@ module _ (all : Bool) (R : ℕ → St → St → Type 0) (r : Counts all R) wher
   tested : (m : ℕ) (b : Bool) (s t : St) → R m s t → R m s (provided b t)
   tested m b s t p = provided-by (R m s) b p (after m s t (stop t) p (r .drops .stops t))
 
+  -- a record, so that the two ways of a test are compared by name
+  record Told (s : St) (y : Out) (m : ℕ) : Type 0 where
+    told : R m s (y .st)
+
   eval-count : (rd : St → ℕ → St) (k : St → ℕ → ℕ) → ((s : St) (n : ℕ) → R (k s n) s (rd s n)) → (f : Tree) (s : St) → R (inFormula rd k f s) s (evalBy rd f s .st)
   unfolding evalBy inFormula
   eval-count rd k h (constant c) s = r .drops .same s
   eval-count rd k h (read n) s = h s n
-  eval-count rd k h (two o a b) s = let t = evalBy rd a s .st in r .then (inFormula rd k a s) (inFormula rd k b t) s t _ (eval-count rd k h a s) (eval-count rd k h b t)
+  eval-count rd k h (two o a b) s =
+      let t = evalBy rd a s .st in
+      r .then (inFormula rd k a s) (inFormula rd k b t) s t (evalBy rd b t .st) (eval-count rd k h a s) (eval-count rd k h b t)
   eval-count rd k h (choose c a b) s =
       let x = evalBy rd c s in
-      r .then (inFormula rd k c s) _ s (x .st) (evalBy rd (choose c a b) s .st) (eval-count rd k h c s)
-      (branches (λ (y : Out) (m : ℕ). R m (x .st) (y .st)) (isZero (x .val)) (λ e. eval-count rd k h b (x .st)) (λ e. eval-count rd k h a (x .st)))
+      let t = x .st in
+      let y : Out = elim (isZero (x .val)) [ true ↦ evalBy rd b t | false ↦ evalBy rd a t ] in
+      let m : ℕ = elim (isZero (x .val)) [ true ↦ inFormula rd k b t | false ↦ inFormula rd k a t ] in
+      let p : Told t y m = branches (Told t) (isZero (x .val)) (λ e. record { told = eval-count rd k h b t }) (λ e. record { told = eval-count rd k h a t }) in
+      r .then (inFormula rd k c s) m s t (y .st) (eval-count rd k h c s) (p .told)
 
   module _ (fr : St → ℕ → Ans) (c : St → ℕ → ℕ) (frs : (s : St) (n : ℕ) → R (c s n) s (fr s n .st)) where
     settleW-count : (s : St) (n : ℕ) → R (c s n) s (settleW fr s n)
@@ -195,9 +204,13 @@ module _ (all : Bool) (R : ℕ → St → St → Type 0) (r : Counts all R) wher
     unfolding checkOn inCheckOn
     checkOn-count u [] s = r .drops .same s
     checkOn-count u (l ∷ ls) s =
-        unless-count s (s .fl u .dirty) (s .fl (s .dep l) .mutable) _ _ _ _
-        (asked-count (c s (s .dep l)) (fr s (s .dep l) .yes) u ls s (steady (s .subs (s .dep l)) (fr s (s .dep l) .st) (s .dep l)) (s .dep l) (steady-count (c s (s .dep l)) (s .subs (s .dep l)) s (fr s (s .dep l) .st) (s .dep l) (frs s (s .dep l)))
-        (checkOn-count u ls (steady (s .subs (s .dep l)) (fr s (s .dep l) .st) (s .dep l)))) (checkOn-count u ls s)
+        let d = s .dep l in
+        let yes = fr s d .yes in
+        let t = steady (s .subs d) (fr s d .st) d in
+        let x : Ans = elim yes [ true ↦ ans (elim (several (t .subs d)) [ true ↦ shallow t d | false ↦ t ]) true | false ↦ checkOn fr u t ls ] in
+        let m : ℕ = c s d + (elim yes [ true ↦ 0 | false ↦ inCheckOn fr c u t ls ]) in
+        let p : R m s (x .st) = asked-count (c s d) yes u ls s t d (steady-count (c s d) (s .subs d) s (fr s d .st) d (frs s d)) (checkOn-count u ls t) in
+        unless-count s (s .fl u .dirty) (s .fl d .mutable) m (inCheckOn fr c u s ls) x (checkOn fr u s ls) p (checkOn-count u ls s)
 
     pub checkW-count : (s : St) (u : ℕ) → R (inCheck fr c s u) s (checkW fr s u .st)
     unfolding checkW inCheck inCheckOn
