@@ -1,15 +1,16 @@
 // What a command asks of the tables, told in one way for all ten.
-use crate::commands::command_of;
+use crate::commands::number_of;
 use primitive::rows::COMPUTED;
 use primitive::rows::EFFECT;
 use primitive::rows::SCOPE;
 use primitive::rows::SIGNAL;
+use primitive::words;
 use refusing::asks::Asks;
 use refusing::asks::Takes;
-use refusing::commands::Command;
 ghost use mathlib.Core.Path.{_≡_};
+ghost use lib.IntN.{pos};
 ghost use Rattle.meaning.specs.Words.{commandOf};
-ghost use Rattle.refusing.specs.Commands.{brief};
+ghost use Rattle.refusing.specs.Commands.{brief, commandBy};
 ghost use Rattle.refusing.specs.Asked.{asked, namesOne, makesOne, cellsFrom};
 
 // The -1 that means no owner.
@@ -43,29 +44,27 @@ fn makes(kind: u64, owner: i64, from: usize) -> Asks
     }
 }
 
-// Set and add take signals; read takes signals and computeds; dispose takes effects and scopes.
-fn told_by(c: Command) -> Asks
-    ensures { λ r. ⌜ r ≡ asked c ⌝ }
+// By the number and the first word: set and add take signals; read takes signals and computeds; dispose takes effects and scopes.
+fn told_by(k: u64, a: i64) -> Asks
+    ensures { λ r. ⌜ r ≡ asked (commandBy k a (pos 0)) ⌝ }
 {
-    match c {
-        Command::Signal(_) => makes(SIGNAL, NOBODY, 0),
-        Command::Computed => makes(COMPUTED, NOBODY, 1),
-        Command::Effect(o) => makes(EFFECT, o, 2),
-        Command::Scope(o) => makes(SCOPE, o, 0),
-        Command::Set(n, _) => names(Takes::Signals, n, false),
-        Command::Add(n, _) => names(Takes::Signals, n, false),
-        Command::Read(n) => names(Takes::Readable, n, false),
-        Command::Dispose(n) => names(Takes::Owners, n, true),
-        Command::Start => makes(0, NOBODY, 0),
-        Command::End => makes(0, NOBODY, 0),
-        Command::Unknown => makes(0, NOBODY, 0),
+    match k {
+        1 => makes(SIGNAL, NOBODY, 0),
+        2 => makes(COMPUTED, NOBODY, 1),
+        3 => makes(EFFECT, a, 2),
+        4 => makes(SCOPE, a, 0),
+        5 => names(Takes::Signals, a, false),
+        6 => names(Takes::Signals, a, false),
+        7 => names(Takes::Readable, a, false),
+        8 => names(Takes::Owners, a, true),
+        _ => makes(0, NOBODY, 0),
     }
 }
 
 pub fn asks_of(words: &[i64]) -> Asks
     ensures { λ r. ⌜ r ≡ asked (brief (commandOf (now (words .entry)))) ⌝ }
 {
-    told_by(command_of(words))
+    told_by(number_of(words), words::signed_at(words, 1))
 }
 
 // Where the cells of the formula begin in the words; at their end if there is none.

@@ -1,10 +1,9 @@
 // Rows 8 and 9 of the table: the batch depth, and the rows of the log.
-use crate::commands::command_of;
+use crate::commands::number_of;
 use counts::reserve::live_effects;
 use counts::room::counted;
 use primitive::rows::DEPTH;
 use primitive::words;
-use refusing::commands::Command;
 ghost use mathlib.Core.Path.{_≡_};
 ghost use mathlib.Core.List.{[]};
 ghost use Prim.Native.Nat.{max};
@@ -22,18 +21,10 @@ pub fn wrong_depth(nodes: &[u64], words: &[i64]) -> bool
     ensures { λ r. ⌜ r ≡ on (commandOf (now (words .entry))) (wrongDepth (nodesAlone (now (nodes .entry)))) ⌝ }
 {
     let depth = words::at(nodes, DEPTH);
-    match command_of(words) {
-        Command::Signal(_) => false,
-        Command::Computed => false,
-        Command::Effect(_) => false,
-        Command::Scope(_) => false,
-        Command::Set(_, _) => false,
-        Command::Add(_, _) => false,
-        Command::Read(_) => false,
-        Command::Dispose(_) => false,
-        Command::Start => MOST_DEPTH <= depth,
-        Command::End => depth == 0,
-        Command::Unknown => false,
+    match number_of(words) {
+        9 => MOST_DEPTH <= depth,
+        10 => depth == 0,
+        _ => false,
     }
 }
 
@@ -48,21 +39,15 @@ fn flush_rows(nodes: &[u64], depth: u64) -> u64
 }
 
 // A new effect wants one row; a set or add at depth 0, or an end at depth 1, wants as many as effects are live.
-fn wanted_rows(nodes: &[u64], c: Command) -> u64
-    ensures { λ r. ⌜ r ≡ wanted (nodesAlone (now (nodes .entry))) c ⌝ }
+fn wanted_rows(nodes: &[u64], k: u64) -> u64
+    ensures { λ r. ⌜ r ≡ wanted (nodesAlone (now (nodes .entry))) k ⌝ }
 {
-    match c {
-        Command::Signal(_) => 0,
-        Command::Computed => 0,
-        Command::Effect(_) => 1,
-        Command::Scope(_) => 0,
-        Command::Set(_, _) => flush_rows(nodes, 0),
-        Command::Add(_, _) => flush_rows(nodes, 0),
-        Command::Read(_) => 0,
-        Command::Dispose(_) => 0,
-        Command::Start => 0,
-        Command::End => flush_rows(nodes, 1),
-        Command::Unknown => 0,
+    match k {
+        3 => 1,
+        5 => flush_rows(nodes, 0),
+        6 => flush_rows(nodes, 0),
+        10 => flush_rows(nodes, 1),
+        _ => 0,
     }
 }
 
@@ -84,5 +69,5 @@ pub fn few_rows(nodes: &[u64], rows: u64, words: &[i64]) -> bool
     if ample(nodes, rows) {
         return false;
     }
-    rows < wanted_rows(nodes, command_of(words))
+    rows < wanted_rows(nodes, number_of(words))
 }

@@ -5,71 +5,65 @@ use refusing::commands::Command;
 use trees::cells::Number;
 ghost use mathlib.Core.Path.{_≡_};
 ghost use Rattle.meaning.specs.Words.{commandOf};
-ghost use Rattle.refusing.specs.Commands.{numberOf, brief, onlyIf};
+ghost use Rattle.refusing.specs.Commands.{numberOf, takesWords, commandBy, brief};
 
-// Its number, 0 if it is unknown.
-pub fn number(c: Command) -> u64
-    ensures { λ r. ⌜ r ≡ numberOf c ⌝ }
+// Whether so many words are as many as the command of this code takes.
+fn takes_words(code: u64, n: usize) -> bool
+    ensures { λ r. ⌜ r ≡ takesWords code n ⌝ }
 {
-    match c {
-        Command::Signal(_) => 1,
-        Command::Computed => 2,
-        Command::Effect(_) => 3,
-        Command::Scope(_) => 4,
-        Command::Set(_, _) => 5,
-        Command::Add(_, _) => 6,
-        Command::Read(_) => 7,
-        Command::Dispose(_) => 8,
-        Command::Start => 9,
-        Command::End => 10,
-        Command::Unknown => 0,
+    match code {
+        1 => n == 2,
+        2 => n % 2 == 1,
+        3 => n % 2 == 0,
+        4 => n == 2,
+        5 => n == 3,
+        6 => n == 3,
+        7 => n == 2,
+        8 => n == 2,
+        9 => n == 1,
+        10 => n == 1,
+        _ => false,
     }
 }
 
-// The command, where the words are as many as it takes.
-fn only(right: bool, c: Command) -> Command
-    ensures { λ r. ⌜ r ≡ onlyIf right c ⌝ }
+// The number of the command, 0 if it is unknown.
+pub fn number_of(words: &[i64]) -> u64
+    ensures { λ r. ⌜ r ≡ numberOf (brief (commandOf (now (words .entry)))) ⌝ }
 {
-    if right { c } else { Command::Unknown }
+    let Number::Is(code) = natural(words::signed_at(words, 0)) else {
+        return 0;
+    };
+    if takes_words(code, words.len()) {
+        return code;
+    }
+    0
+}
+
+// The command of this number, with the two words after its code.
+fn command_by(k: u64, a: i64, b: i64) -> Command
+    ensures { λ r. ⌜ r ≡ commandBy k a b ⌝ }
+{
+    match k {
+        1 => Command::Signal(a),
+        2 => Command::Computed,
+        3 => Command::Effect(a),
+        4 => Command::Scope(a),
+        5 => Command::Set(a, b),
+        6 => Command::Add(a, b),
+        7 => Command::Read(a),
+        8 => Command::Dispose(a),
+        9 => Command::Start,
+        10 => Command::End,
+        _ => Command::Unknown,
+    }
 }
 
 pub fn command_of(words: &[i64]) -> Command
     ensures { λ r. ⌜ r ≡ brief (commandOf (now (words .entry))) ⌝ }
 {
-    let Number::Is(code) = natural(words::signed_at(words, 0)) else {
-        return Command::Unknown;
-    };
-    let n = words.len();
-    let a = words::signed_at(words, 1);
-    if code == 1 {
-        return only(n == 2, Command::Signal(a));
-    }
-    if code == 2 {
-        return only(n % 2 == 1, Command::Computed);
-    }
-    if code == 3 {
-        return only(n % 2 == 0, Command::Effect(a));
-    }
-    if code == 4 {
-        return only(n == 2, Command::Scope(a));
-    }
-    if code == 5 {
-        return only(n == 3, Command::Set(a, words::signed_at(words, 2)));
-    }
-    if code == 6 {
-        return only(n == 3, Command::Add(a, words::signed_at(words, 2)));
-    }
-    if code == 7 {
-        return only(n == 2, Command::Read(a));
-    }
-    if code == 8 {
-        return only(n == 2, Command::Dispose(a));
-    }
-    if code == 9 {
-        return only(n == 1, Command::Start);
-    }
-    if code == 10 {
-        return only(n == 1, Command::End);
-    }
-    Command::Unknown
+    command_by(
+        number_of(words),
+        words::signed_at(words, 1),
+        words::signed_at(words, 2),
+    )
 }

@@ -1,7 +1,6 @@
 // Rows 2 to 4 of the table: the command, and the nodes that it names.
 use crate::asks::asks_of;
-use crate::commands::command_of;
-use crate::commands::number;
+use crate::commands::number_of;
 use formula::cells::natural;
 use primitive::rows::COMPUTED;
 use primitive::rows::COUNT;
@@ -24,7 +23,7 @@ ghost use Rattle.refusing.specs.Asked.{taken, nodeAsked, wrongNamed};
 pub fn unknown(words: &[i64]) -> bool
     ensures { λ r. ⌜ r ≡ unknown (commandOf (now (words .entry))) ⌝ }
 {
-    number(command_of(words)) == 0
+    number_of(words) == 0
 }
 
 // Whether a node of this kind word is taken.

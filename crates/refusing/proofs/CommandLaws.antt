@@ -16,7 +16,7 @@ use Rattle.trees.proofs.CellLaws.{natural-pos, natural-neg}
 use Rattle.meaning.specs.Words.{Command as Meant, makeSignal, makeComputed, makeEffect, makeScope, setTo, addTo, readOf, disposeOf, batchStart, batchEnd, word, noWord, wholeCells, codes, commandOf}
 use Rattle.refusing.specs.declared.commands.Command.{Command}
 use Rattle.refusing.specs.declared.commands.Command.the-variants.{Signal, Computed, Effect, Scope, Set, Add, Read, Dispose, Start, End, Unknown}
-use Rattle.refusing.specs.Commands.{onlyIf, brief, told}
+use Rattle.refusing.specs.Commands.{numberOf, takesWords, onlyIf, commandBy, brief, told}
 use Rattle.refusing.specs.Asked.{asked, fromOr, cellsFrom}
 
 -- what holds of each of the eleven holds of all
@@ -45,144 +45,125 @@ twoWords f rest = word (λ x. oneWord (f x)) rest
 abbrev wordAndCells : (ℤ → List ℤ → Meant) → List ℤ → Option Meant
 wordAndCells f rest = word (λ x. wholeCells (f x)) rest
 
-module _ (w : ℤ) where
-  no-word : (f : Meant) (g : Command) → brief (some f) ≡ g → (rest : List ℤ) → onlyIf (eqb (length (w ∷ rest)) 1) g ≡ brief (noWord f rest)
-  unfolding brief noWord
-  no-word f g h [] = sym h
-  no-word f g h (x ∷ zs) = let d : suc (suc (length zs)) ≡ 1 → ⊥ = λ e. omega arith in rw (ne-eqb (suc (suc (length zs))) 1 d)
+-- ---- the number of a command
+no-word : (f : Meant) (k : ℕ) → numberOf (brief (some f)) ≡ k → (rest : List ℤ) → onlyIf (eqb (suc (length rest)) 1) k ≡ numberOf (brief (noWord f rest))
+unfolding numberOf brief noWord
+no-word f k h [] = sym h
+no-word f k h (x ∷ zs) = let d : suc (suc (length zs)) ≡ 1 → ⊥ = λ e. omega arith in rw (ne-eqb (suc (suc (length zs))) 1 d)
 
-  one-word : (f : ℤ → Meant) (g : ℤ → Command) → ((x : ℤ) → brief (some (f x)) ≡ g x) → (rest : List ℤ)
-      → onlyIf (eqb (length (w ∷ rest)) 2) (g (getD (w ∷ rest) 1 (pos 0))) ≡ brief (oneWord f rest)
-  unfolding brief word noWord
-  one-word f g h [] = refl
-  one-word f g h (x ∷ []) = sym (h x)
-  one-word f g h (x ∷ y ∷ zs) = let d : suc (suc (suc (length zs))) ≡ 2 → ⊥ = λ e. omega arith in rw (ne-eqb (suc (suc (suc (length zs)))) 2 d)
+one-word : (f : ℤ → Meant) (k : ℕ) → ((x : ℤ) → numberOf (brief (some (f x))) ≡ k) → (rest : List ℤ)
+    → onlyIf (eqb (suc (length rest)) 2) k ≡ numberOf (brief (oneWord f rest))
+unfolding numberOf brief word noWord
+one-word f k h [] = refl
+one-word f k h (x ∷ []) = sym (h x)
+one-word f k h (x ∷ y ∷ zs) = let d : suc (suc (suc (length zs))) ≡ 2 → ⊥ = λ e. omega arith in rw (ne-eqb (suc (suc (suc (length zs)))) 2 d)
 
-  two-words : (f : ℤ → ℤ → Meant) (g : ℤ → ℤ → Command) → ((x y : ℤ) → brief (some (f x y)) ≡ g x y) → (rest : List ℤ)
-      → onlyIf (eqb (length (w ∷ rest)) 3) (g (getD (w ∷ rest) 1 (pos 0)) (getD (w ∷ rest) 2 (pos 0))) ≡ brief (twoWords f rest)
-  unfolding brief word noWord
-  two-words f g h [] = refl
-  two-words f g h (x ∷ []) = refl
-  two-words f g h (x ∷ y ∷ []) = sym (h x y)
-  two-words f g h (x ∷ y ∷ z ∷ zs) =
-      let d : suc (suc (suc (suc (length zs)))) ≡ 3 → ⊥ = λ e. omega arith in rw (ne-eqb (suc (suc (suc (suc (length zs))))) 3 d)
+two-words : (f : ℤ → ℤ → Meant) (k : ℕ) → ((x y : ℤ) → numberOf (brief (some (f x y))) ≡ k) → (rest : List ℤ)
+    → onlyIf (eqb (suc (length rest)) 3) k ≡ numberOf (brief (twoWords f rest))
+unfolding numberOf brief word noWord
+two-words f k h [] = refl
+two-words f k h (x ∷ []) = refl
+two-words f k h (x ∷ y ∷ []) = sym (h x y)
+two-words f k h (x ∷ y ∷ z ∷ zs) =
+    let d : suc (suc (suc (suc (length zs)))) ≡ 3 → ⊥ = λ e. omega arith in rw (ne-eqb (suc (suc (suc (suc (length zs))))) 3 d)
 
-  whole : (rest : List ℤ) → onlyIf (eqb (length (w ∷ rest) % 2) 1) Computed ≡ brief (wholeCells makeComputed rest)
-  unfolding brief wholeCells
-  whole rest = go (eqb (length rest % 2) 0) refl
-    where
-      go : (b : Bool) → eqb (length rest % 2) 0 ≡ b
-          → onlyIf (eqb (suc (length rest) % 2) 1) Computed ≡ brief (elim b [ true ↦ some (makeComputed rest) | false ↦ none ])
-      go true e = let q = eqb-true (length rest % 2) 0 e in rw (eq-eqb (suc (length rest) % 2) 1 (omega arith))
-      go false e = let q = eqb-false (length rest % 2) 0 e in rw (ne-eqb (suc (length rest) % 2) 1 (λ p. q (omega arith)))
+whole : (rest : List ℤ) → onlyIf (eqb (suc (length rest) % 2) 1) 2 ≡ numberOf (brief (wholeCells makeComputed rest))
+unfolding numberOf brief wholeCells
+whole rest = go (eqb (length rest % 2) 0) refl
+  where
+    go : (b : Bool) → eqb (length rest % 2) 0 ≡ b
+        → onlyIf (eqb (suc (length rest) % 2) 1) 2 ≡ numberOf (brief (elim b [ true ↦ some (makeComputed rest) | false ↦ none ]))
+    go true e = let q = eqb-true (length rest % 2) 0 e in rw (eq-eqb (suc (length rest) % 2) 1 (omega arith))
+    go false e = let q = eqb-false (length rest % 2) 0 e in rw (ne-eqb (suc (length rest) % 2) 1 (λ p. q (omega arith)))
 
-  word-and-whole : (rest : List ℤ) → onlyIf (eqb (length (w ∷ rest) % 2) 0) (Effect (getD (w ∷ rest) 1 (pos 0))) ≡ brief (wordAndCells makeEffect rest)
-  unfolding brief word wholeCells
-  word-and-whole [] = refl
-  word-and-whole (x ∷ rest) = go (eqb (length rest % 2) 0) refl
-    where
-      go : (b : Bool) → eqb (length rest % 2) 0 ≡ b
-          → onlyIf (eqb (suc (suc (length rest)) % 2) 0) (Effect x) ≡ brief (elim b [ true ↦ some (makeEffect x rest) | false ↦ none ])
-      go true e = let q = eqb-true (length rest % 2) 0 e in rw (eq-eqb (suc (suc (length rest)) % 2) 0 (omega arith))
-      go false e = let q = eqb-false (length rest % 2) 0 e in rw (ne-eqb (suc (suc (length rest)) % 2) 0 (λ p. q (omega arith)))
+word-and-whole : (rest : List ℤ) → onlyIf (eqb (suc (length rest) % 2) 0) 3 ≡ numberOf (brief (wordAndCells makeEffect rest))
+unfolding numberOf brief word wholeCells
+word-and-whole [] = refl
+word-and-whole (x ∷ rest) = go (eqb (length rest % 2) 0) refl
+  where
+    go : (b : Bool) → eqb (length rest % 2) 0 ≡ b
+        → onlyIf (eqb (suc (suc (length rest)) % 2) 0) 3 ≡ numberOf (brief (elim b [ true ↦ some (makeEffect x rest) | false ↦ none ]))
+    go true e = let q = eqb-true (length rest % 2) 0 e in rw (eq-eqb (suc (suc (length rest)) % 2) 0 (omega arith))
+    go false e = let q = eqb-false (length rest % 2) 0 e in rw (ne-eqb (suc (suc (length rest)) % 2) 0 (λ p. q (omega arith)))
 
--- ---- by the code
-by-code : (k : ℕ) (P : List ℤ → Command) → ((rest : List ℤ) → P (pos (suc k) ∷ rest) ≡ brief (codes (suc k) rest))
-    → (ws : List ℤ) → getD ws 0 (pos 0) ≡ pos (suc k) → P ws ≡ brief (commandOf ws)
-unfolding commandOf
-by-code k P f [] e = let z : 0 ≡ suc k = cc in absurd (omega arith)
-by-code k P f (w ∷ rest) e = subst (λ (x : ℤ). P (x ∷ rest) ≡ brief (commandOf (x ∷ rest))) (sym e) (f rest)
+-- it is the code, where the words are as many as that takes
+number-row : (c k : ℕ) (x y : Bool) (s t : Option Meant) → onlyIf x k ≡ numberOf (brief s) → onlyIf y c ≡ numberOf (brief t)
+    → onlyIf (cond (eqb c k) x y) c ≡ numberOf (brief (cond (eqb c k) s t))
+number-row c k x y s t p q = go (eqb c k) refl
+  where
+    go : (b : Bool) → eqb c k ≡ b → onlyIf (cond b x y) c ≡ numberOf (brief (cond b s t))
+    go true e = ap (onlyIf x) (eqb-true c k e) ∙ p
+    go false e = q
+
+number-codes : (c : ℕ) (rest : List ℤ) → onlyIf (takesWords c (suc (length rest))) c ≡ numberOf (brief (codes c rest))
+unfolding takesWords codes numberOf brief
+number-codes c rest =
+    number-row c 1 _ _ _ _ (one-word makeSignal 1 (λ x. refl) rest)
+    (number-row c 2 _ _ _ _ (whole rest)
+    (number-row c 3 _ _ _ _ (word-and-whole rest)
+    (number-row c 4 _ _ _ _ (one-word makeScope 4 (λ x. refl) rest)
+    (number-row c 5 _ _ _ _ (two-words setTo 5 (λ x y. refl) rest)
+    (number-row c 6 _ _ _ _ (two-words addTo 6 (λ x y. refl) rest)
+    (number-row c 7 _ _ _ _ (one-word readOf 7 (λ x. refl) rest)
+    (number-row c 8 _ _ _ _ (one-word disposeOf 8 (λ x. refl) rest)
+    (number-row c 9 _ _ _ _ (no-word batchStart 9 refl rest)
+    (number-row c 10 _ _ _ _ (no-word batchEnd 10 refl rest) refl)))))))))
 
 module _ (ws : List ℤ) {r : Number} (found : r ≡ naturalOf (getD ws 0 (pos 0))) where
-  pub code-none : r ≡ None → Unknown ≡ brief (commandOf ws)
-  unfolding brief commandOf
+  pub code-none : r ≡ None → 0 ≡ numberOf (brief (commandOf ws))
+  unfolding numberOf brief commandOf
   code-none e = go ws found
     where
-      go : (ws : List ℤ) → r ≡ naturalOf (getD ws 0 (pos 0)) → Unknown ≡ brief (commandOf ws)
+      go : (ws : List ℤ) → r ≡ naturalOf (getD ws 0 (pos 0)) → 0 ≡ numberOf (brief (commandOf ws))
       go [] f = refl
-      go (w ∷ rest) f = natural-neg w f (λ (z : ℤ). Unknown ≡ brief (commandOf (z ∷ rest))) e (λ n. refl)
+      go (w ∷ rest) f = natural-neg w f (λ (z : ℤ). 0 ≡ numberOf (brief (commandOf (z ∷ rest)))) e (λ n. refl)
 
-  module _ (c : ℕ) (is : r ≡ Is c) where
-    first-word : (k : ℕ) → c ≡ k → getD ws 0 (pos 0) ≡ pos k
-    first-word k e = natural-pos (getD ws 0 (pos 0)) found c is ∙ ap pos e
-
-    pub code-1 : c ≡ 1 → onlyIf (eqb (length ws) 2) (Signal (getD ws 1 (pos 0))) ≡ brief (commandOf ws)
-    unfolding codes brief
-    code-1 e = by-code 0 (λ (ws : List ℤ). onlyIf (eqb (length ws) 2) (Signal (getD ws 1 (pos 0)))) (one-word (pos 1) makeSignal Signal (λ x. refl)) ws (first-word 1 e)
-
-    pub code-2 : c ≡ 2 → onlyIf (eqb (length ws % 2) 1) Computed ≡ brief (commandOf ws)
-    unfolding codes
-    code-2 e = by-code 1 (λ (ws : List ℤ). onlyIf (eqb (length ws % 2) 1) Computed) (whole (pos 2)) ws (first-word 2 e)
-
-    pub code-3 : c ≡ 3 → onlyIf (eqb (length ws % 2) 0) (Effect (getD ws 1 (pos 0))) ≡ brief (commandOf ws)
-    unfolding codes
-    code-3 e = by-code 2 (λ (ws : List ℤ). onlyIf (eqb (length ws % 2) 0) (Effect (getD ws 1 (pos 0)))) (word-and-whole (pos 3)) ws (first-word 3 e)
-
-    pub code-4 : c ≡ 4 → onlyIf (eqb (length ws) 2) (Scope (getD ws 1 (pos 0))) ≡ brief (commandOf ws)
-    unfolding codes brief
-    code-4 e = by-code 3 (λ (ws : List ℤ). onlyIf (eqb (length ws) 2) (Scope (getD ws 1 (pos 0)))) (one-word (pos 4) makeScope Scope (λ x. refl)) ws (first-word 4 e)
-
-    pub code-5 : c ≡ 5 → onlyIf (eqb (length ws) 3) (Set (getD ws 1 (pos 0)) (getD ws 2 (pos 0))) ≡ brief (commandOf ws)
-    unfolding codes brief
-    code-5 e = by-code 4 (λ (ws : List ℤ). onlyIf (eqb (length ws) 3) (Set (getD ws 1 (pos 0)) (getD ws 2 (pos 0)))) (two-words (pos 5) setTo Set (λ x y. refl)) ws (first-word 5 e)
-
-    pub code-6 : c ≡ 6 → onlyIf (eqb (length ws) 3) (Add (getD ws 1 (pos 0)) (getD ws 2 (pos 0))) ≡ brief (commandOf ws)
-    unfolding codes brief
-    code-6 e = by-code 5 (λ (ws : List ℤ). onlyIf (eqb (length ws) 3) (Add (getD ws 1 (pos 0)) (getD ws 2 (pos 0)))) (two-words (pos 6) addTo Add (λ x y. refl)) ws (first-word 6 e)
-
-    pub code-7 : c ≡ 7 → onlyIf (eqb (length ws) 2) (Read (getD ws 1 (pos 0))) ≡ brief (commandOf ws)
-    unfolding codes brief
-    code-7 e = by-code 6 (λ (ws : List ℤ). onlyIf (eqb (length ws) 2) (Read (getD ws 1 (pos 0)))) (one-word (pos 7) readOf Read (λ x. refl)) ws (first-word 7 e)
-
-    pub code-8 : c ≡ 8 → onlyIf (eqb (length ws) 2) (Dispose (getD ws 1 (pos 0))) ≡ brief (commandOf ws)
-    unfolding codes brief
-    code-8 e = by-code 7 (λ (ws : List ℤ). onlyIf (eqb (length ws) 2) (Dispose (getD ws 1 (pos 0)))) (one-word (pos 8) disposeOf Dispose (λ x. refl)) ws (first-word 8 e)
-
-    pub code-9 : c ≡ 9 → onlyIf (eqb (length ws) 1) Start ≡ brief (commandOf ws)
-    unfolding codes brief
-    code-9 e = by-code 8 (λ (ws : List ℤ). onlyIf (eqb (length ws) 1) Start) (no-word (pos 9) batchStart Start refl) ws (first-word 9 e)
-
-    pub code-10 : c ≡ 10 → onlyIf (eqb (length ws) 1) End ≡ brief (commandOf ws)
-    unfolding codes brief
-    code-10 e = by-code 9 (λ (ws : List ℤ). onlyIf (eqb (length ws) 1) End) (no-word (pos 10) batchEnd End refl) ws (first-word 10 e)
-
-    -- none of the ten
-    pub code-past : (c ≡ 1 → ⊥) → (c ≡ 2 → ⊥) → (c ≡ 3 → ⊥) → (c ≡ 4 → ⊥) → (c ≡ 5 → ⊥) → (c ≡ 6 → ⊥) → (c ≡ 7 → ⊥) → (c ≡ 8 → ⊥) → (c ≡ 9 → ⊥) → (c ≡ 10 → ⊥)
-        → Unknown ≡ brief (commandOf ws)
-    unfolding brief commandOf codes
-    code-past a₁ a₂ a₃ a₄ a₅ a₆ a₇ a₈ a₉ a₁₀ = go ws (first-word c refl)
+  module _ (c : ℕ) (is : r ≡ Is c) {b : Bool} (right : b ≡ takesWords c (length ws)) where
+    by-code : onlyIf b c ≡ numberOf (brief (commandOf ws))
+    unfolding commandOf numberOf brief
+    by-code = go ws right (natural-pos (getD ws 0 (pos 0)) found c is)
       where
-        go : (ws : List ℤ) → getD ws 0 (pos 0) ≡ pos c → Unknown ≡ brief (commandOf ws)
-        go [] e = refl
-        go (w ∷ rest) e =
-            subst (λ (x : ℤ). Unknown ≡ brief (commandOf (x ∷ rest))) (sym e)
-            (rw (ne-eqb c 1 a₁, ne-eqb c 2 a₂, ne-eqb c 3 a₃, ne-eqb c 4 a₄, ne-eqb c 5 a₅, ne-eqb c 6 a₆, ne-eqb c 7 a₇, ne-eqb c 8 a₈, ne-eqb c 9 a₉, ne-eqb c 10 a₁₀))
+        none-of : (b : Bool) → onlyIf b 0 ≡ 0
+        none-of true = refl
+        none-of false = refl
+
+        go : (ws : List ℤ) → b ≡ takesWords c (length ws) → getD ws 0 (pos 0) ≡ pos c → onlyIf b c ≡ numberOf (brief (commandOf ws))
+        go [] f e = let z : 0 ≡ c = cc in subst (λ (x : ℕ). onlyIf b x ≡ 0) z (none-of b)
+        go (w ∷ rest) f e = subst (λ (x : ℤ). onlyIf b c ≡ numberOf (brief (commandOf (x ∷ rest)))) (sym e) (ap (λ (x : Bool). onlyIf x c) f ∙ number-codes c rest)
+
+    pub code-right : b ≡ true → c ≡ numberOf (brief (commandOf ws))
+    code-right e = ap (λ (x : Bool). onlyIf x c) (sym e) ∙ by-code
+
+    pub code-wrong : b ≡ false → 0 ≡ numberOf (brief (commandOf ws))
+    code-wrong e = ap (λ (x : Bool). onlyIf x c) (sym e) ∙ by-code
 
 -- ---- the command in full
--- the words give back what the enum leaves out, and its cells begin inside them
+-- the words give back what the enum leaves out, its number and two words give the enum, and its cells begin inside them
 record Kept (ws : List ℤ) (x : Option Meant) : Type 0 where
   same : x ≡ told (brief x) ws
+  numbered : commandBy (numberOf (brief x)) (getD ws 1 (pos 0)) (getD ws 2 (pos 0)) ≡ brief x
   inside : fromOr (asked (brief x) .from) (length ws) ≤ length ws
 
 module _ (w : ℤ) where
   kept-none : (ws : List ℤ) → Kept ws none
-  unfolding brief told asked
-  kept-none ws = record { same = refl; inside = omega arith }
+  unfolding brief told asked numberOf commandBy
+  kept-none ws = record { same = refl; numbered = refl; inside = omega arith }
 
   kept-no : (f : Meant) (ws : List ℤ) → Kept ws (some f) → (rest : List ℤ) → Kept ws (noWord f rest)
   unfolding noWord
   kept-no f ws h [] = h
   kept-no f ws h (x ∷ zs) = kept-none ws
 
-  kept-one : (f : ℤ → Meant) (ws : List ℤ) → ((x : ℤ) → Kept ws (some (f x))) → (rest : List ℤ) → Kept ws (oneWord f rest)
+  kept-one : (f : ℤ → Meant) → ((x : ℤ) (zs : List ℤ) → Kept (w ∷ x ∷ zs) (some (f x))) → (rest : List ℤ) → Kept (w ∷ rest) (oneWord f rest)
   unfolding word
-  kept-one f ws h [] = kept-none ws
-  kept-one f ws h (x ∷ rest) = kept-no (f x) ws (h x) rest
+  kept-one f h [] = kept-none (w ∷ [])
+  kept-one f h (x ∷ zs) = kept-no (f x) (w ∷ x ∷ zs) (h x zs) zs
 
-  kept-two : (f : ℤ → ℤ → Meant) (ws : List ℤ) → ((x y : ℤ) → Kept ws (some (f x y))) → (rest : List ℤ) → Kept ws (twoWords f rest)
+  kept-two : (f : ℤ → ℤ → Meant) → ((x y : ℤ) (zs : List ℤ) → Kept (w ∷ x ∷ y ∷ zs) (some (f x y))) → (rest : List ℤ) → Kept (w ∷ rest) (twoWords f rest)
   unfolding word
-  kept-two f ws h [] = kept-none ws
-  kept-two f ws h (x ∷ rest) = kept-one (f x) ws (h x) rest
+  kept-two f h [] = kept-none (w ∷ [])
+  kept-two f h (x ∷ []) = kept-none (w ∷ x ∷ [])
+  kept-two f h (x ∷ y ∷ zs) = kept-no (f x y) (w ∷ x ∷ y ∷ zs) (h x y zs) zs
 
   kept-whole : (f : List ℤ → Meant) (ws rest : List ℤ) → Kept ws (some (f rest)) → Kept ws (wholeCells f rest)
   unfolding wholeCells
@@ -193,27 +174,27 @@ module _ (w : ℤ) where
       go false = kept-none ws
 
   kept-effect : (rest : List ℤ) → Kept (w ∷ rest) (wordAndCells makeEffect rest)
-  unfolding word brief told asked
+  unfolding word brief told asked numberOf commandBy
   kept-effect [] = kept-none (w ∷ [])
-  kept-effect (x ∷ rest) = kept-whole (makeEffect x) (w ∷ x ∷ rest) rest record { same = refl; inside = omega arith }
+  kept-effect (x ∷ rest) = kept-whole (makeEffect x) (w ∷ x ∷ rest) rest record { same = refl; numbered = refl; inside = omega arith }
 
   kept-row : (ws : List ℤ) (b : Bool) (x y : Option Meant) → Kept ws x → Kept ws y → Kept ws (cond b x y)
   kept-row ws true x y p q = p
   kept-row ws false x y p q = q
 
   kept-codes : (c : ℕ) (rest : List ℤ) → Kept (w ∷ rest) (codes c rest)
-  unfolding codes brief told asked
+  unfolding codes brief told asked numberOf commandBy
   kept-codes c rest =
-      kept-row (w ∷ rest) (eqb c 1) _ _ (kept-one makeSignal (w ∷ rest) (λ x. record { same = refl; inside = omega arith }) rest)
-      (kept-row (w ∷ rest) (eqb c 2) _ _ (kept-whole makeComputed (w ∷ rest) rest record { same = refl; inside = omega arith })
+      kept-row (w ∷ rest) (eqb c 1) _ _ (kept-one makeSignal (λ x zs. record { same = refl; numbered = refl; inside = omega arith }) rest)
+      (kept-row (w ∷ rest) (eqb c 2) _ _ (kept-whole makeComputed (w ∷ rest) rest record { same = refl; numbered = refl; inside = omega arith })
       (kept-row (w ∷ rest) (eqb c 3) _ _ (kept-effect rest)
-      (kept-row (w ∷ rest) (eqb c 4) _ _ (kept-one makeScope (w ∷ rest) (λ x. record { same = refl; inside = omega arith }) rest)
-      (kept-row (w ∷ rest) (eqb c 5) _ _ (kept-two setTo (w ∷ rest) (λ x y. record { same = refl; inside = omega arith }) rest)
-      (kept-row (w ∷ rest) (eqb c 6) _ _ (kept-two addTo (w ∷ rest) (λ x y. record { same = refl; inside = omega arith }) rest)
-      (kept-row (w ∷ rest) (eqb c 7) _ _ (kept-one readOf (w ∷ rest) (λ x. record { same = refl; inside = omega arith }) rest)
-      (kept-row (w ∷ rest) (eqb c 8) _ _ (kept-one disposeOf (w ∷ rest) (λ x. record { same = refl; inside = omega arith }) rest)
-      (kept-row (w ∷ rest) (eqb c 9) _ _ (kept-no batchStart (w ∷ rest) record { same = refl; inside = omega arith } rest)
-      (kept-row (w ∷ rest) (eqb c 10) _ _ (kept-no batchEnd (w ∷ rest) record { same = refl; inside = omega arith } rest)
+      (kept-row (w ∷ rest) (eqb c 4) _ _ (kept-one makeScope (λ x zs. record { same = refl; numbered = refl; inside = omega arith }) rest)
+      (kept-row (w ∷ rest) (eqb c 5) _ _ (kept-two setTo (λ x y zs. record { same = refl; numbered = refl; inside = omega arith }) rest)
+      (kept-row (w ∷ rest) (eqb c 6) _ _ (kept-two addTo (λ x y zs. record { same = refl; numbered = refl; inside = omega arith }) rest)
+      (kept-row (w ∷ rest) (eqb c 7) _ _ (kept-one readOf (λ x zs. record { same = refl; numbered = refl; inside = omega arith }) rest)
+      (kept-row (w ∷ rest) (eqb c 8) _ _ (kept-one disposeOf (λ x zs. record { same = refl; numbered = refl; inside = omega arith }) rest)
+      (kept-row (w ∷ rest) (eqb c 9) _ _ (kept-no batchStart (w ∷ rest) record { same = refl; numbered = refl; inside = omega arith } rest)
+      (kept-row (w ∷ rest) (eqb c 10) _ _ (kept-no batchEnd (w ∷ rest) record { same = refl; numbered = refl; inside = omega arith } rest)
       (kept-none (w ∷ rest)))))))))))
 
 kept : (ws : List ℤ) → Kept ws (commandOf ws)
@@ -226,9 +207,9 @@ kept (negsuc c ∷ rest) = kept-none (pos 0) (negsuc c ∷ rest)
 pub told-is : (ws : List ℤ) → commandOf ws ≡ told (brief (commandOf ws)) ws
 told-is ws = kept ws .same
 
--- the command, once the code knows which it is
-pub is-told : (ws : List ℤ) {r b : Command} → r ≡ brief (commandOf ws) → r ≡ b → commandOf ws ≡ told b ws
-is-told ws e f = told-is ws ∙ ap (λ (x : Command). told x ws) (sym e ∙ f)
+-- and the number and two words are the enum
+pub numbered-is : (ws : List ℤ) → commandBy (numberOf (brief (commandOf ws))) (getD ws 1 (pos 0)) (getD ws 2 (pos 0)) ≡ brief (commandOf ws)
+numbered-is ws = kept ws .numbered
 
 pub from-inside : (ws : List ℤ) → cellsFrom ws ≤ length ws
 unfolding cellsFrom

@@ -31,8 +31,8 @@ told-number : (b : Command) (ws : List ℤ) → eqb (numberOf b) 0 ≡ unknown (
 unfolding unknown told numberOf
 told-number b ws = each (λ (b : Command). eqb (numberOf b) 0 ≡ unknown (told b ws)) (λ k. refl) refl (λ o. refl) (λ o. refl) (λ n k. refl) (λ n k. refl) (λ n. refl) (λ n. refl) refl refl refl b
 
-pub unknown-by : (ws : List ℤ) {b : Command} {k : ℕ} → b ≡ brief (commandOf ws) → k ≡ numberOf b → eqb k 0 ≡ unknown (commandOf ws)
-unknown-by ws {b} e f = ap (λ (x : ℕ). eqb x 0) (f ∙ ap numberOf e) ∙ told-number (brief (commandOf ws)) ws ∙ ap unknown (sym (told-is ws))
+pub unknown-by : (ws : List ℤ) {k : ℕ} → k ≡ numberOf (brief (commandOf ws)) → eqb k 0 ≡ unknown (commandOf ws)
+unknown-by ws e = ap (λ (x : ℕ). eqb x 0) e ∙ told-number (brief (commandOf ws)) ws ∙ ap unknown (sym (told-is ws))
 
 -- ---- kinds
 pub kind-signal : (w : ℕ) → eqb w SIGNAL ≡ aSignal (kindOf w)

@@ -6,8 +6,8 @@ use Prim.Native.Nat.{ℕ}
 use native.Mathlib.Omega.{arith}
 use lib.IntN.{ℤ}
 use Rattle.meaning.specs.Words.{commandOf}
-use Rattle.meaning.specs.Refusals.{on, unknown, wrongNode, goneNode, badFormula, tooHigh, noRoom, wrongDepth, fewRows, first, table, refusal}
-use Rattle.refusing.specs.Sight.{nodesAlone, sightIn}
+use Rattle.meaning.specs.Refusals.{first, table, refusal}
+use Rattle.refusing.specs.Sight.{sightIn, rowsIn}
 use Rattle.refusing.proofs.Sights.{wrong-sees, gone-sees, bad-sees, high-sees, room-sees, depth-sees, rows-see}
 
 -- ---- rows 5 to 7 by themselves
@@ -85,10 +85,7 @@ module _ (b₂ b₃ b₄ b₅ b₆ b₇ b₈ b₉ : Bool) where
       given-0 h k = rw (h, k) at last
 
 module _ (nodes links : List ℕ) (cells : List ℤ) (rows : ℕ) where
-  pub rows-are : (ws : List ℤ) → refusal true (sightIn nodes links cells rows) ws
-      ≡ first 2 (unknown (commandOf ws) ∷ on (commandOf ws) (wrongNode (nodesAlone nodes)) ∷ on (commandOf ws) (goneNode (nodesAlone nodes))
-      ∷ on (commandOf ws) (badFormula (nodesAlone nodes)) ∷ on (commandOf ws) (tooHigh (nodesAlone nodes)) ∷ on (commandOf ws) (noRoom (sightIn nodes links cells 0))
-      ∷ on (commandOf ws) (wrongDepth (nodesAlone nodes)) ∷ on (commandOf ws) (fewRows (sightIn nodes [] [] rows)) ∷ [])
+  pub rows-are : (ws : List ℤ) → refusal true (sightIn nodes links cells rows) ws ≡ first 2 (rowsIn nodes links cells rows (commandOf ws))
   unfolding refusal table first
   rows-are ws =
       rw (

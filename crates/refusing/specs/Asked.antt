@@ -1,9 +1,9 @@
 -- What a command asks, as the code's record tells it, beside `asksOf` of `meaning`.
-use mathlib.Core.Bool.{Bool, true, false, not}
+use mathlib.Core.Bool.{Bool, true, false, not, cond}
 use mathlib.Core.List.{List}
 use mathlib.Core.Option.{Option, none, some}
 use Prim.Native.Nat.{ℕ, zero, suc}
-use lib.Dec.{ltb}
+use lib.Dec.{eqb, leb, ltb}
 use lib.IntN.{ℤ, pos, negsuc}
 use lib.ListN.{length, drop}
 use Rattle.primitive.specs.Words.{SIGNAL, COMPUTED, EFFECT, SCOPE}
@@ -99,16 +99,15 @@ cellsFrom ws = fromOr (asked (brief (commandOf ws)) .from) (length ws)
 unfoldable pub formulaIn : List ℤ → List ℤ
 formulaIn ws = drop (cellsFrom ws) ws
 
--- the rows of the log that a command wants
-unfoldable pub wanted : Sight → Command → ℕ
-wanted v (Signal k) = 0
-wanted v Computed = 0
-wanted v (Effect o) = 1
-wanted v (Scope o) = 0
-wanted v (Set n k) = flushRows v 0
-wanted v (Add n k) = flushRows v 0
-wanted v (Read n) = 0
-wanted v (Dispose n) = 0
-wanted v Start = 0
-wanted v End = flushRows v 1
-wanted v Unknown = 0
+-- ---- by the command's number
+-- the depths that bar it: 64 a start, 0 an end
+unfoldable pub barredAt : ℕ → ℕ → Bool
+barredAt k d = cond (eqb k 9) (leb 64 d) (cond (eqb k 10) (eqb d 0) false)
+
+-- the rows of the log that it wants: a new effect, a set, an add, an end
+unfoldable pub wanted : Sight → ℕ → ℕ
+wanted v k =
+    cond (eqb k 3) 1
+    (cond (eqb k 5) (flushRows v 0)
+    (cond (eqb k 6) (flushRows v 0)
+    (cond (eqb k 10) (flushRows v 1) 0)))

@@ -9,8 +9,8 @@ use Rattle.refusals.proofs.batching.wrong_depth.Kinds as batching-wrong-depth-k
 use Rattle.refusals.proofs.batching.wrong_depth.Reads as batching-wrong-depth
 use Rattle.refusals.proofs.batching.few_rows.Kinds as batching-few-rows-kinds
 use Rattle.refusals.proofs.batching.few_rows.Reads as batching-few-rows
-use Rattle.refusals.proofs.commands.number.Kinds as commands-number-kinds
-use Rattle.refusals.proofs.commands.number.Reads as commands-number
+use Rattle.refusals.proofs.commands.number_of.Kinds as commands-number-of-kinds
+use Rattle.refusals.proofs.commands.number_of.Reads as commands-number-of
 use Rattle.refusals.proofs.commands.command_of.Kinds as commands-command-of-kinds
 use Rattle.refusals.proofs.commands.command_of.Reads as commands-command-of
 use Rattle.refusals.proofs.making.bad_formula.Kinds as making-bad-formula-kinds
@@ -38,8 +38,8 @@ one-batching-wrong-depth κs a x y v w p q = (p ∙ sym q, refl)
 pub one-batching-few-rows : OneAnswer batching-few-rows-kinds.ps batching-few-rows-kinds.r batching-few-rows.Learnt
 one-batching-few-rows κs a x y v w p q = (p ∙ sym q, refl)
 
-pub one-commands-number : OneAnswer commands-number-kinds.ps commands-number-kinds.r commands-number.Learnt
-one-commands-number κs a x y v w p q = (p ∙ sym q, refl)
+pub one-commands-number-of : OneAnswer commands-number-of-kinds.ps commands-number-of-kinds.r commands-number-of.Learnt
+one-commands-number-of κs a x y v w p q = (p ∙ sym q, refl)
 
 pub one-commands-command-of : OneAnswer commands-command-of-kinds.ps commands-command-of-kinds.r commands-command-of.Learnt
 one-commands-command-of κs a x y v w p q = (p ∙ sym q, refl)

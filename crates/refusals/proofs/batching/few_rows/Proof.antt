@@ -10,14 +10,14 @@ ample-requires c κs = search needs
 returns : tie.Need-returns
 returns c = not-few (c .before .before .before .args .nodes .now) (c .before .before .before .args .rows) _ (c .before .ample .ensures) (c .if1 .taken)
 
-command-of-requires : tie.Need-command-of-requires
-command-of-requires c κs = search needs
+number-of-requires : tie.Need-number-of-requires
+number-of-requires c κs = search needs
 
 wanted-rows-requires : tie.Need-wanted-rows-requires
 wanted-rows-requires c κs = search needs
 
 returns-2 : tie.Need-returns-2
-returns-2 c = few-by (c .before .before .before .before .before .args .nodes .now) (c .before .before .before .before .before .args .rows) _ (c .before .command-of .ensures) (c .wanted-rows .ensures)
+returns-2 c = few-by (c .before .before .before .before .before .args .nodes .now) (c .before .before .before .before .before .args .rows) _ (c .before .number-of .ensures) (c .wanted-rows .ensures)
 
 pub few-rows-spec : {M : Type 1} → statement M
-few-rows-spec = tie.close (tie.spec ample-requires returns command-of-requires wanted-rows-requires returns-2)
+few-rows-spec = tie.close (tie.spec ample-requires returns number-of-requires wanted-rows-requires returns-2)

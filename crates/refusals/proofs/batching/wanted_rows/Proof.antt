@@ -1,129 +1,40 @@
 -- `refusals::batching::wanted_rows` meets its contract. Assumes nothing.
+use borrow.Author.Tests.{ne-eqb}
 use Rattle.refusing.specs.Asked.{wanted}
 use borrow.Author.Needs.{needs}
 use Rattle.refusals.proofs.batching.wanted_rows.Statement.{statement}
 use Rattle.refusals.proofs.batching.wanted_rows.Tie as tie
 
-enum-told : tie.Need-enum-told
-enum-told c = search needs
-
-enum-told-2 : tie.Need-enum-told-2
-enum-told-2 c = search needs
-
-enum-told-3 : tie.Need-enum-told-3
-enum-told-3 c = search needs
-
-enum-told-4 : tie.Need-enum-told-4
-enum-told-4 c = search needs
-
-enum-told-5 : tie.Need-enum-told-5
-enum-told-5 c = search needs
-
 flush-rows-requires : tie.Need-flush-rows-requires
 flush-rows-requires c κs = search needs
-
-enum-told-6 : tie.Need-enum-told-6
-enum-told-6 c = search needs
 
 flush-rows-requires-2 : tie.Need-flush-rows-requires-2
 flush-rows-requires-2 c κs = search needs
 
-enum-told-7 : tie.Need-enum-told-7
-enum-told-7 c = search needs
-
-enum-told-8 : tie.Need-enum-told-8
-enum-told-8 c = search needs
-
-enum-told-9 : tie.Need-enum-told-9
-enum-told-9 c = search needs
-
-enum-told-10 : tie.Need-enum-told-10
-enum-told-10 c = search needs
-
 flush-rows-requires-3 : tie.Need-flush-rows-requires-3
 flush-rows-requires-3 c κs = search needs
 
-enum-told-11 : tie.Need-enum-told-11
-enum-told-11 c = search needs
-
 returns : tie.Need-returns
 unfolding wanted
-returns c = rw
-    (c .enum-told .given .1)
+returns c = rw (c .match .keys1)
 
 returns-2 : tie.Need-returns-2
 unfolding wanted
-returns-2 c = rw
-    (c .enum-told2 .given .1)
+returns-2 c = rw (c .before .match .keys2) (c .flush-rows .ensures)
 
 returns-3 : tie.Need-returns-3
 unfolding wanted
-returns-3 c = rw
-    (c .enum-told3 .given .1)
+returns-3 c = rw (c .before .match .keys3) (c .flush-rows2 .ensures)
 
 returns-4 : tie.Need-returns-4
 unfolding wanted
-returns-4 c = rw
-    (c .enum-told4 .given .1)
+returns-4 c = rw (c .before .match .keys4) (c .flush-rows3 .ensures)
 
 returns-5 : tie.Need-returns-5
 unfolding wanted
-returns-5 c = rw (c .before .enum-told5 .given .1) (c .flush-rows .ensures)
-
-returns-6 : tie.Need-returns-6
-unfolding wanted
-returns-6 c = rw (c .before .enum-told6 .given .1) (c .flush-rows2 .ensures)
-
-returns-7 : tie.Need-returns-7
-unfolding wanted
-returns-7 c = rw
-    (c .enum-told7 .given .1)
-
-returns-8 : tie.Need-returns-8
-unfolding wanted
-returns-8 c = rw
-    (c .enum-told8 .given .1)
-
-returns-9 : tie.Need-returns-9
-unfolding wanted
-returns-9 c = rw
-    (c .enum-told9 .given .1)
-
-returns-10 : tie.Need-returns-10
-unfolding wanted
-returns-10 c = rw (c .before .enum-told10 .given .1) (c .flush-rows3 .ensures)
-
-returns-11 : tie.Need-returns-11
-unfolding wanted
-returns-11 c = rw
-    (c .enum-told11 .given .1)
+returns-5 c =
+    let k = c .before .before .args .k in
+    rw (ne-eqb k 3 (c .match .rest .0 .0 .0 .1), ne-eqb k 5 (c .match .rest .0 .0 .1), ne-eqb k 6 (c .match .rest .0 .1), ne-eqb k 10 (c .match .rest .1))
 
 pub wanted-rows-spec : {M : Type 1} → statement M
-wanted-rows-spec =
-    tie.close
-    (tie.spec
-    enum-told
-    enum-told-2
-    enum-told-3
-    enum-told-4
-    enum-told-5
-    flush-rows-requires
-    enum-told-6
-    flush-rows-requires-2
-    enum-told-7
-    enum-told-8
-    enum-told-9
-    enum-told-10
-    flush-rows-requires-3
-    enum-told-11
-    returns
-    returns-2
-    returns-3
-    returns-4
-    returns-5
-    returns-6
-    returns-7
-    returns-8
-    returns-9
-    returns-10
-    returns-11)
+wanted-rows-spec = tie.close (tie.spec flush-rows-requires flush-rows-requires-2 flush-rows-requires-3 returns returns-2 returns-3 returns-4 returns-5)

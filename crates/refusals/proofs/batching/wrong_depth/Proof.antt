@@ -1,10 +1,7 @@
 -- `refusals::batching::wrong_depth` meets its contract. Assumes nothing.
-use mathlib.Core.Path.{ap}
-use Prim.Native.Nat.{ℕ}
-use lib.Dec.{eqb, leb}
-use Rattle.refusing.specs.Commands.{told}
-use Rattle.refusing.proofs.CommandLaws.{is-told}
-use Rattle.meaning.specs.Refusals.{asksOf, wrongDepth}
+use borrow.Author.Tests.{ne-eqb}
+use Rattle.refusing.specs.Asked.{barredAt}
+use Rattle.refusing.proofs.BatchingLaws.{depth-by}
 use borrow.Author.Needs.{needs}
 use Rattle.refusals.proofs.batching.wrong_depth.Statement.{statement}
 use Rattle.refusals.proofs.batching.wrong_depth.Tie as tie
@@ -12,111 +9,32 @@ use Rattle.refusals.proofs.batching.wrong_depth.Tie as tie
 at-requires : tie.Need-at-requires
 at-requires c κs = search needs
 
-command-of-requires : tie.Need-command-of-requires
-command-of-requires c κs = search needs
-
-enum-told : tie.Need-enum-told
-enum-told c = search needs
-
-enum-told-2 : tie.Need-enum-told-2
-enum-told-2 c = search needs
-
-enum-told-3 : tie.Need-enum-told-3
-enum-told-3 c = search needs
-
-enum-told-4 : tie.Need-enum-told-4
-enum-told-4 c = search needs
-
-enum-told-5 : tie.Need-enum-told-5
-enum-told-5 c = search needs
-
-enum-told-6 : tie.Need-enum-told-6
-enum-told-6 c = search needs
-
-enum-told-7 : tie.Need-enum-told-7
-enum-told-7 c = search needs
-
-enum-told-8 : tie.Need-enum-told-8
-enum-told-8 c = search needs
-
-enum-told-9 : tie.Need-enum-told-9
-enum-told-9 c = search needs
-
-enum-told-10 : tie.Need-enum-told-10
-enum-told-10 c = search needs
-
-enum-told-11 : tie.Need-enum-told-11
-enum-told-11 c = search needs
+number-of-requires : tie.Need-number-of-requires
+number-of-requires c κs = search needs
 
 returns : tie.Need-returns
-unfolding told wrongDepth asksOf
-returns c = rw (is-told _ (c .before .before .command-of .ensures) (c .enum-told .given .1))
+unfolding barredAt
+returns c =
+    let number-of = c .before .number-of in
+    let at = c .before .before .at in
+    let a = c .before .before .before .before .args in
+    depth-by (a .nodes .now) _ (number-of .ensures) (at .ensures) (rw (c .match .keys1))
 
 returns-2 : tie.Need-returns-2
-unfolding told wrongDepth asksOf
-returns-2 c = rw (is-told _ (c .before .before .command-of .ensures) (c .enum-told2 .given .1))
+unfolding barredAt
+returns-2 c =
+    let number-of = c .before .number-of in
+    let at = c .before .before .at in
+    let a = c .before .before .before .before .args in
+    depth-by (a .nodes .now) _ (number-of .ensures) (at .ensures) (rw (c .match .keys2))
 
 returns-3 : tie.Need-returns-3
-unfolding told wrongDepth asksOf
-returns-3 c = rw (is-told _ (c .before .before .command-of .ensures) (c .enum-told3 .given .1))
-
-returns-4 : tie.Need-returns-4
-unfolding told wrongDepth asksOf
-returns-4 c = rw (is-told _ (c .before .before .command-of .ensures) (c .enum-told4 .given .1))
-
-returns-5 : tie.Need-returns-5
-unfolding told wrongDepth asksOf
-returns-5 c = rw (is-told _ (c .before .before .command-of .ensures) (c .enum-told5 .given .1))
-
-returns-6 : tie.Need-returns-6
-unfolding told wrongDepth asksOf
-returns-6 c = rw (is-told _ (c .before .before .command-of .ensures) (c .enum-told6 .given .1))
-
-returns-7 : tie.Need-returns-7
-unfolding told wrongDepth asksOf
-returns-7 c = rw (is-told _ (c .before .before .command-of .ensures) (c .enum-told7 .given .1))
-
-returns-8 : tie.Need-returns-8
-unfolding told wrongDepth asksOf
-returns-8 c = rw (is-told _ (c .before .before .command-of .ensures) (c .enum-told8 .given .1))
-
-returns-9 : tie.Need-returns-9
-unfolding told wrongDepth asksOf
-returns-9 c = rw (is-told _ (c .before .before .command-of .ensures) (c .enum-told9 .given .1)) (ap (leb 64) (c .before .before .before .at .ensures))
-
-returns-10 : tie.Need-returns-10
-unfolding told wrongDepth asksOf
-returns-10 c = rw (is-told _ (c .before .before .command-of .ensures) (c .enum-told10 .given .1)) (ap (λ (x : ℕ). eqb x 0) (c .before .before .before .at .ensures))
-
-returns-11 : tie.Need-returns-11
-unfolding told wrongDepth asksOf
-returns-11 c = rw (is-told _ (c .before .before .command-of .ensures) (c .enum-told11 .given .1))
+unfolding barredAt
+returns-3 c =
+    let number-of = c .before .number-of in
+    let at = c .before .before .at in
+    let a = c .before .before .before .before .args in
+    depth-by (a .nodes .now) _ (number-of .ensures) (at .ensures) (rw (ne-eqb (number-of .result) 9 (c .match .rest .0 .1), ne-eqb (number-of .result) 10 (c .match .rest .1)))
 
 pub wrong-depth-spec : {M : Type 1} → statement M
-wrong-depth-spec =
-    tie.close
-    (tie.spec
-    at-requires
-    command-of-requires
-    enum-told
-    enum-told-2
-    enum-told-3
-    enum-told-4
-    enum-told-5
-    enum-told-6
-    enum-told-7
-    enum-told-8
-    enum-told-9
-    enum-told-10
-    enum-told-11
-    returns
-    returns-2
-    returns-3
-    returns-4
-    returns-5
-    returns-6
-    returns-7
-    returns-8
-    returns-9
-    returns-10
-    returns-11)
+wrong-depth-spec = tie.close (tie.spec at-requires number-of-requires returns returns-2 returns-3)
