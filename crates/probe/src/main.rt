@@ -14,6 +14,25 @@ use read::lengths;
 use read::naturals;
 use show::show;
 use stream::Window;
+use stream::least;
+
+// What the arguments ask for.
+enum Asked {
+    Commands,
+    Emptying,
+    Unknown,
+}
+
+// What there is to do with a block: nothing where it can't be read.
+fn wanted(good: bool, emptying: bool) -> Asked {
+    if !good {
+        return Asked::Unknown;
+    }
+    if emptying {
+        return Asked::Emptying;
+    }
+    Asked::Commands
+}
 
 // The command, or the emptying.
 fn acted(
@@ -23,16 +42,38 @@ fn acted(
     cells: &mut [i64],
     log: &mut [i64],
     words: &[i64],
-    emptying: bool,
+    what: Asked,
 ) -> Answer {
-    if emptying {
-        return Answer {
+    match what {
+        Asked::Commands => command(nodes, links, values, cells, log, words),
+        Asked::Emptying => Answer {
             code: empty(nodes, links, values, cells),
             value: 0,
             runs: 0,
-        };
+        },
+        Asked::Unknown => Answer {
+            code: 0,
+            value: 0,
+            runs: 0,
+        },
     }
-    command(nodes, links, values, cells, log, words)
+}
+
+// Prints what came of a block, or says that it can't be read.
+fn told(
+    nodes: &[u64],
+    links: &[u64],
+    values: &[i64],
+    cells: &[i64],
+    log: &[i64],
+    answer: Answer,
+    good: bool,
+) -> bool {
+    if good {
+        return show(nodes, links, values, cells, log, answer);
+    }
+    io::write_all(STDERR_FILENO, b"probe: no such block\n");
+    false
 }
 
 fn done(
@@ -42,56 +83,19 @@ fn done(
     cells: &mut [i64],
     log: &mut [i64],
     words: &[i64],
+    good: bool,
     emptying: bool,
 ) -> bool {
-    let answer = acted(nodes, links, values, cells, log, words, emptying);
-    show(nodes, links, values, cells, log, answer)
-}
-
-// The tables cut to the lengths of a block.
-fn cut(
-    nodes: &mut [u64],
-    links: &mut [u64],
-    values: &mut [i64],
-    cells: &mut [i64],
-    log: &mut [i64],
-    words: &[i64],
-    given: Sizes,
-    emptying: bool,
-) -> bool {
-    let n = given.nodes;
-    let l = given.links;
-    let v = given.values;
-    let c = given.cells;
-    let g = given.log;
-    let w = given.words;
-    if nodes.len() < n {
-        return false;
-    }
-    if links.len() < l {
-        return false;
-    }
-    if values.len() < v {
-        return false;
-    }
-    if cells.len() < c {
-        return false;
-    }
-    if log.len() < g {
-        return false;
-    }
-    if words.len() < w {
-        return false;
-    }
-    done(
-        &mut nodes[0..n],
-        &mut links[0..l],
-        &mut values[0..v],
-        &mut cells[0..c],
-        &mut log[0..g],
-        &words[0..w],
-        emptying,
-    )
+    let answer = acted(
+        nodes,
+        links,
+        values,
+        cells,
+        log,
+        words,
+        wanted(good, emptying),
+    );
+    told(nodes, links, values, cells, log, answer, good)
 }
 
 fn tables(
@@ -101,9 +105,8 @@ fn tables(
     cells: &mut [i64],
     buf: &mut [u8],
     given: Sizes,
-    input: Input,
 ) -> Input {
-    let a = naturals(nodes, given.nodes, buf, input);
+    let a = naturals(nodes, given.nodes, buf, given.input);
     let b = naturals(links, given.links, buf, a);
     let c = integers(values, given.values, buf, b);
     integers(cells, given.cells, buf, c)
@@ -114,14 +117,8 @@ fn rest(log: &mut [i64], words: &mut [i64], buf: &mut [u8], given: Sizes, input:
     integers(words, given.words, buf, a)
 }
 
-// Says of a block that it can't be read.
-fn unreadable(input: Input) -> Input {
-    io::write_all(STDERR_FILENO, b"probe: no such block\n");
-    input
-}
-
-// One block: its words, and what comes of them.
-fn block(
+// The words of a block, and what comes of them.
+fn filled(
     nodes: &mut [u64],
     links: &mut [u64],
     values: &mut [i64],
@@ -130,15 +127,11 @@ fn block(
     words: &mut [i64],
     buf: &mut [u8],
     given: Sizes,
-    input: Input,
     emptying: bool,
 ) -> Input {
-    let first = tables(nodes, links, values, cells, buf, given, input);
+    let first = tables(nodes, links, values, cells, buf, given);
     let all = rest(log, words, buf, given, first);
-    if !all.good {
-        return unreadable(all);
-    }
-    let more = cut(nodes, links, values, cells, log, words, given, emptying);
+    let more = done(nodes, links, values, cells, log, words, all.good, emptying);
     let window = all.window;
     Input {
         window: window,
@@ -146,11 +139,31 @@ fn block(
     }
 }
 
-// What the arguments ask for.
-enum Asked {
-    Commands,
-    Emptying,
-    Unknown,
+// One block, on tables of its lengths. Room for one node, one slot and one cell more than the host's; tables that are longer can't be read.
+fn block(buf: &mut [u8], given: Sizes, emptying: bool) -> Input {
+    let n = least(given.nodes, 16448);
+    let l = least(given.links, 65600);
+    let v = least(given.values, 4128);
+    let c = least(given.cells, 16400);
+    let g = least(given.log, 2112);
+    let w = least(given.words, 4096);
+    let mut nodes = [0u64; 16448];
+    let mut links = [0u64; 65600];
+    let mut values = [0i64; 4128];
+    let mut cells = [0i64; 16400];
+    let mut log = [0i64; 2112];
+    let mut words = [0i64; 4096];
+    filled(
+        &mut nodes[0..n],
+        &mut links[0..l],
+        &mut values[0..v],
+        &mut cells[0..c],
+        &mut log[0..g],
+        &mut words[0..w],
+        buf,
+        given,
+        emptying,
+    )
 }
 
 // Whether the first n bytes are `empty`.
@@ -192,14 +205,7 @@ fn by_arguments() -> Asked {
     Asked::Unknown
 }
 
-// Room for one node, one slot and one cell more than the host's.
 fn run(emptying: bool) {
-    let mut nodes = [0u64; 16448];
-    let mut links = [0u64; 65600];
-    let mut values = [0i64; 4128];
-    let mut cells = [0i64; 16400];
-    let mut log = [0i64; 2112];
-    let mut words = [0i64; 4096];
     let mut buf = [0u8; 16384];
     let mut input = Input {
         window: Window {
@@ -215,18 +221,7 @@ fn run(emptying: bool) {
         if given.ended {
             return;
         }
-        input = block(
-            &mut nodes,
-            &mut links,
-            &mut values,
-            &mut cells,
-            &mut log,
-            &mut words,
-            &mut buf,
-            given,
-            given.input,
-            emptying,
-        );
+        input = block(&mut buf, given, emptying);
         if !input.good {
             return;
         }

@@ -4,6 +4,7 @@ use spelling::numbers::Digits;
 use spelling::numbers::Spelled;
 use stream::Got;
 use stream::Window;
+use stream::least;
 use stream::next;
 use text::numbers::number;
 
@@ -128,11 +129,11 @@ fn worth(text: &[u8]) -> Digits {
     Digits::Worth(v)
 }
 
-fn as_natural(digits: Digits, ended: bool, window: Window, good: bool) -> Word {
+fn as_natural(digits: Digits, long: usize, window: Window, good: bool) -> Word {
     let Digits::Worth(n) = digits else {
         return Word {
             word: 0,
-            ended: ended,
+            ended: long == 0,
             input: Input {
                 window: window,
                 good: false,
@@ -144,21 +145,19 @@ fn as_natural(digits: Digits, ended: bool, window: Window, good: bool) -> Word {
         ended: false,
         input: Input {
             window: window,
-            good: good,
+            good: fits(long, good),
         },
     }
 }
 
+fn fits(long: usize, good: bool) -> bool {
+    if long > MOST { false } else { good }
+}
+
 fn natural_by(text: &mut [u8], buf: &mut [u8], input: Input) -> Word {
     let p = piece(text, buf, input.window);
-    let long = p.long;
-    if long > MOST {
-        return as_natural(Digits::None, false, p.window, false);
-    }
-    if text.len() < long {
-        return as_natural(Digits::None, false, p.window, false);
-    }
-    as_natural(worth(&text[0..long]), long == 0, p.window, input.good)
+    let long = least(p.long, text.len());
+    as_natural(worth(&text[0..long]), long, p.window, input.good)
 }
 
 fn natural(buf: &mut [u8], input: Input) -> Word {
@@ -187,14 +186,8 @@ fn as_integer(spelled: Spelled, window: Window, good: bool) -> SignedWord {
 
 fn integer_by(text: &mut [u8], buf: &mut [u8], input: Input) -> SignedWord {
     let p = piece(text, buf, input.window);
-    let long = p.long;
-    if long > MOST {
-        return as_integer(Spelled::Not, p.window, false);
-    }
-    if text.len() < long {
-        return as_integer(Spelled::Not, p.window, false);
-    }
-    as_integer(number(&text[0..long]), p.window, input.good)
+    let long = least(p.long, text.len());
+    as_integer(number(&text[0..long]), p.window, fits(long, input.good))
 }
 
 fn integer(buf: &mut [u8], input: Input) -> SignedWord {

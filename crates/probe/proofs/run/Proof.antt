@@ -6,10 +6,10 @@ use Rattle.probe.proofs.run.Statement.{statement}
 use Rattle.probe.proofs.run.Tie as tie
 
 abbrev Inv-loop : tie.InvT-loop
-Inv-loop emptying nodes₀ links₀ values₀ cells₀ log₀ words₀ buf₀ input₀ turns₀ nodes links values cells log words buf input turns = (length nodes ≡ 16448) × (length links ≡ 65600) × (length values ≡ 4128) × (length cells ≡ 16400) × (length log ≡ 2112) × (length words ≡ 4096) × (length buf ≡ 16384)
+Inv-loop emptying buf₀ input₀ turns₀ buf input turns = length buf ≡ 16384
 
 abbrev μ-loop : tie.MeasureT-loop
-μ-loop emptying nodes₀ links₀ values₀ cells₀ log₀ words₀ buf₀ input₀ turns₀ nodes links values cells log words buf input turns = turns
+μ-loop emptying buf₀ input₀ turns₀ buf input turns = turns
 
 loop-holds : tie.Need-loop-holds Inv-loop μ-loop
 loop-holds c = search needs
@@ -25,24 +25,6 @@ returns c = search needs
 
 slice-aggregate-block : tie.Need-slice-aggregate-block Inv-loop μ-loop
 slice-aggregate-block c = search needs
-
-slice-aggregate-block-2 : tie.Need-slice-aggregate-block-2 Inv-loop μ-loop
-slice-aggregate-block-2 c = search needs
-
-slice-aggregate-block-3 : tie.Need-slice-aggregate-block-3 Inv-loop μ-loop
-slice-aggregate-block-3 c = search needs
-
-slice-aggregate-block-4 : tie.Need-slice-aggregate-block-4 Inv-loop μ-loop
-slice-aggregate-block-4 c = search needs
-
-slice-aggregate-block-5 : tie.Need-slice-aggregate-block-5 Inv-loop μ-loop
-slice-aggregate-block-5 c = search needs
-
-slice-aggregate-block-6 : tie.Need-slice-aggregate-block-6 Inv-loop μ-loop
-slice-aggregate-block-6 c = search needs
-
-slice-aggregate-block-7 : tie.Need-slice-aggregate-block-7 Inv-loop μ-loop
-slice-aggregate-block-7 c = search needs
 
 block-requires : tie.Need-block-requires Inv-loop μ-loop
 block-requires c κs = search needs
@@ -73,12 +55,6 @@ run-spec =
     lengths-requires
     returns
     slice-aggregate-block
-    slice-aggregate-block-2
-    slice-aggregate-block-3
-    slice-aggregate-block-4
-    slice-aggregate-block-5
-    slice-aggregate-block-6
-    slice-aggregate-block-7
     block-requires
     returns-2
     sub-turns
