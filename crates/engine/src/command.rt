@@ -3,7 +3,7 @@ use crate::perform::perform;
 use crate::tables::well_formed;
 use refusals::asks::cells_from;
 use refusals::commands::command_of;
-use refusals::table;
+use verdicts::table;
 ghost use mathlib.Core.Path.{_≡_};
 ghost use Rattle.commanding.specs.Command.{answered, refusalOn, refusalIn, commandOn, commandIn};
 

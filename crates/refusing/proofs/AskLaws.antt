@@ -46,7 +46,7 @@ asked-by ws e f =
     ap₂ (λ (k : ℕ) (a : ℤ). asked (commandBy k a (pos 0))) e f ∙ asked-first (numberOf (brief (commandOf ws))) (getD ws 1 (pos 0)) (pos 0) (getD ws 2 (pos 0))
     ∙ ap asked (numbered-is ws)
 
--- a number past 8 makes nothing and names nothing
+-- a number that is none of 1 to 8 makes nothing and names nothing
 pub asks-nothing : (k : ℕ) (a : ℤ) → (k ≡ 1 → ⊥) → (k ≡ 2 → ⊥) → (k ≡ 3 → ⊥) → (k ≡ 4 → ⊥) → (k ≡ 5 → ⊥) → (k ≡ 6 → ⊥) → (k ≡ 7 → ⊥) → (k ≡ 8 → ⊥)
     → asked Unknown ≡ asked (commandBy k a (pos 0))
 unfolding commandBy asked

@@ -13,6 +13,7 @@ pub mod OfCounts
 pub mod OfDescribed
 pub mod OfJoined
 pub mod OfRefusals
+pub mod OfVerdicts
 pub mod OfOperations
 pub mod OfMaking
 pub mod OfEngine
