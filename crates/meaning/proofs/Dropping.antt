@@ -826,17 +826,25 @@ module _ (g : Given) (st : Static g) where
           lists (inl a) (inr f) = inr f
           lists (inr f) b = inr (sp .fallen m f)
 
-      gone-too : Inside g nobody (unlinkN (suc K) t l) × (unlinkN (suc K) t l .stuck ≡ t .stuck) × Kept (unlinkN (suc K) t l) × ((m : ℕ) → (Under g x m → ⊥) → unlinkN (suc K) t l .gone m ≡ t .gone m) × Left (unlinkN (suc K) t l)
+      -- what the last link of x leaves; a record, so that the ways of a test are compared by name
+      record Ended (z : St) : Type 0 where
+        inside : Inside g nobody z
+        stuck : z .stuck ≡ t .stuck
+        reads : Kept z
+        others : (m : ℕ) → (Under g x m → ⊥) → z .gone m ≡ t .gone m
+        left : Left z
+
+      gone-too : Ended (unlinkN (suc K) t l)
       unfolding unlinkN unwatchedW cut
       gone-too =
           let d = t .dep l in
           let c = cut t l in
-          let P : St → Type 0 = λ z. Inside g nobody z × (z .stuck ≡ t .stuck) × Kept z × ((m : ℕ) → (Under g x m → ⊥) → z .gone m ≡ t .gone m) × Left z in
-          branch P (t .live l)
-          (λ a. branch P (isNil (c .subs d))
-          (λ q. subst (λ (y : ℕ). P (unwatchedW (unlinkN K) c y)) (sym (linked .1))
-          (branch P (c .fl x .mutable) (λ m. clash m (ap (λ (z : Named). z .mutable) flag))
-          (λ m. let w = dispose-bare K (unlinkN K) (unlink-inside K) nobody c x x i-left h r alone (λ n y z. z) (in-time c) in (w .0, w .1 .stuck, after _ (w .0) (w .2) (w .1 .dep) (w .1 .ver), λ m f. w .1 .flags m f .1, left-after _ _ _ (w .1) (w .2)))))
+          branch Ended (t .live l)
+          (λ a. branch Ended (isNil (c .subs d))
+          (λ q. subst (λ (y : ℕ). Ended (unwatchedW (unlinkN K) c y)) (sym (linked .1))
+          (branch Ended (c .fl x .mutable) (λ m. clash m (ap (λ (z : Named). z .mutable) flag))
+          (λ m. let w = dispose-bare K (unlinkN K) (unlink-inside K) nobody c x x i-left h r alone (λ n y z. z) (in-time c) in
+          record { inside = w .0; stuck = w .1 .stuck; reads = after _ (w .0) (w .2) (w .1 .dep) (w .1 .ver); others = λ m f. w .1 .flags m f .1; left = left-after _ _ _ (w .1) (w .2) })))
           (λ q. absurd (isNil-false (c .subs d) q (subst (λ (y : ℕ). c .subs y ≡ []) (sym (linked .1)) alone))))
           (λ a. clash (linked .0) a)
 
@@ -878,9 +886,9 @@ module _ (g : Given) (st : Static g) where
         go (l ∷ ls) e =
             let w = gone-too l ls e in
             record {
-              inside = w .0;
-              stuck = w .1 ∙ purged .dropped .stuck;
-              reads = w .2;
-              others = spared-marks (unlinkN (suc K) emptied l) (w .0) (λ m f. w .3 m f ∙ marks-emptied m f);
-              left = w .4;
+              inside = w .inside;
+              stuck = w .stuck ∙ purged .dropped .stuck;
+              reads = w .reads;
+              others = spared-marks (unlinkN (suc K) emptied l) (w .inside) (λ m f. w .others m f ∙ marks-emptied m f);
+              left = w .left;
             }
