@@ -48,6 +48,7 @@ module _ (r : Ring) (n : ℕ) (rd : St → ℕ → St) (ran : List ℕ) (C : Lis
       let taken = worked-sim a (workedBy r n c x .after) (evalBy rd c s .st) (i + length (names c)) (λ m j. ok m (in-right m (names c) (names a ++ names b) (in-left m (names a) (names b) j))) (omega arith) (y .1) (y .0) in
       let other = worked-sim b (workedBy r n c x .after) (evalBy rd c s .st) (i + length (names c)) (λ m j. ok m (in-right m (names c) (names a ++ names b) (in-right m (names a) (names b) j))) (omega arith) (y .1) (y .0) in
       both-ways (Alike (i + length (names c ++ (names a ++ names b)))) (isZero (workedBy r n c x .value)) (isZero (evalBy rd c s .val)) (ap isZero (y .2))
+      {x = workedBy r n b (workedBy r n c x .after)} {y = workedBy r n a (workedBy r n c x .after)} {p = evalBy rd b (evalBy rd c s .st)} {q = evalBy rd a (evalBy rd c s .st)}
       (λ z. more (i + length (names c) + length (names b)) (i + length (names c ++ (names a ++ names b))) (workedBy r n b (workedBy r n c x .after)) (evalBy rd b (evalBy rd c s .st)) (omega arith) other)
       (λ z. more (i + length (names c) + length (names a)) (i + length (names c ++ (names a ++ names b))) (workedBy r n a (workedBy r n c x .after)) (evalBy rd a (evalBy rd c s .st)) (omega arith) taken)
 

@@ -340,10 +340,13 @@ module _ (g : Given) (st : Static g) (L : List ℕ) (s : St) (subs-are : (x : �
     unfolding prop below onward
     turned =
         let Goal : Marks → Type 0 = λ x. x .stuck ≡ false → Marked [] (turn p L N pl v) s (x .fl) (x .queue) in
-        branch Goal (recursing (m .fl v)) (λ e q. clash e calm-node)
-        (λ e. branch Goal (unclean (m .fl v))
+        -- the ways of each test are named: finding them by comparing is dear
+        let pushes : Marks = elim (several (s .subs v)) [ true ↦ prop s k (halt (mark s m v) (stackFull s ws)) (s .subs v) (w ∷ ws) | false ↦ prop s k (mark s m v) (s .subs v ++ w) ws ] in
+        let marked : Marks = elim (m .fl v .mutable) [ true ↦ pushes | false ↦ prop s k (mark s m v) w ws ] in
+        branch Goal (recursing (m .fl v)) {x = halt m true} {y = elim (unclean (m .fl v)) [ true ↦ prop s k m w ws | false ↦ marked ]} (λ e q. clash e calm-node)
+        (λ e. branch Goal (unclean (m .fl v)) {x = prop s k m w ws} {y = marked}
         (λ d q. subst (λ (z : List ℕ). Marked [] z s (prop s k m w ws .fl) (prop s k m w ws .queue)) (sym (skip-is d)) (list N m w ws A l (firstWord w) len j i mk (λ x y. ok x (inr y)) oks al sd long enough deep q))
-        (λ d. branch Goal (m .fl v .mutable)
+        (λ d. branch Goal (m .fl v .mutable) {x = pushes} {y = prop s k (mark s m v) w ws}
         (λ mu q. subst (λ (z : List ℕ). Marked [] z s (R d mu (s .subs v) .fl) (R d mu (s .subs v) .queue)) (sym (mark-is d ∙ way-down mu d)) (descend d mu (s .subs v) refl q))
         (λ mu q. subst (λ (z : List ℕ). Marked [] z s (prop s k (mark s m v) w ws .fl) (prop s k (mark s m v) w ws .queue)) (sym (mark-is d ∙ no-way mu)) (flat d q))))
       where
