@@ -14,17 +14,23 @@ use Rattle.trees.specs.Cells.{naturalOf}
 use Rattle.trees.proofs.CellLaws.{natural-pos, natural-neg}
 use Rattle.telling.specs.Whole.{describedIn}
 use Rattle.resting.specs.Joined.{joinedIn}
+use Rattle.primitive.specs.declared.values.Value.{Value}
+use Rattle.primitive.specs.Values.{value}
+use Rattle.linking.specs.Table.{Tab, tab}
+use Rattle.linking.specs.Ring.{disposed}
 use Rattle.reading.specs.Tables.{State, state, Got}
 use Rattle.reading.specs.Read.{readOf}
 use Rattle.meaning.specs.Words.{commandOf, nodeOf}
 use Rattle.meaning.specs.Refusals.{Sight, table, first, refusal}
 use Rattle.refusing.specs.declared.commands.Command.{Command}
-use Rattle.refusing.specs.declared.commands.Command.the-variants.{Read}
+use Rattle.refusing.specs.declared.commands.Command.the-variants.{Signal, Computed, Effect, Scope, Set, Add, Read, Dispose, Start, End, Unknown}
 use Rattle.refusing.specs.Sight.{sightIn}
 use Rattle.refusing.specs.Commands.{brief}
 use Rattle.refusing.specs.Asked.{formulaIn}
 use Rattle.operating.specs.Log.{Ran, ranTo, numberWord}
-use Rattle.operating.specs.Making.{Made}
+use Rattle.operating.specs.Batches.{started, endedBatch}
+use Rattle.operating.specs.Writes.{written, added}
+use Rattle.operating.specs.Making.{Made, newSignal, newComputed, newScope, Started, newEffect}
 use Rattle.commanding.specs.Tables.{wellFormedIn}
 use Rattle.commanding.specs.Perform.{Done, done, ownerWord, numbered, performed}
 use Rattle.commanding.specs.Command.{Answered, accepted, refused, refusalOn, refusalIn, answer, commandOn, commandIn}
@@ -88,12 +94,53 @@ pub command-tested : (n l : List ℕ) (v c g ws : List ℤ) (b : Bool) {a : Answ
 unfolding commandIn refusalIn
 command-tested n l v c g ws b e q = q ∙ ap (λ (b : Bool). commandOn b n l v c g ws) e
 
--- ---- doing
-pub numbered-by : (l : List ℤ) {m o : Made} {x : ℤ} → m ≡ o → x ≡ numberWord (m .number) → done x (ranTo (m .after) l 0) (m .cells) ≡ numbered l o
+-- ---- doing: a law a command
+numbered-by : (l : List ℤ) {m o : Made} {x : ℤ} → m ≡ o → x ≡ numberWord (m .number) → done x (ranTo (m .after) l 0) (m .cells) ≡ numbered l o
 unfolding numbered
 numbered-by l {m} p q = rw (← p, numbered, q)
 
--- the value read is the value returned, and nothing ran
-pub read-by : (s : State) (c l ws : List ℤ) (k : ℤ) {n : ℕ} {g : Got} → n ≡ nodeOf k → g ≡ readOf c s n → done (g .value .word) (ranTo (g .after) l 0) c ≡ performed s c l (Read k) ws
-unfolding performed
-read-by s c l ws k p q = ap (λ (g : Got). done (g .value .word) (ranTo (g .after) l 0) c) (q ∙ ap (readOf c s) p)
+module _ (s : State) (c l ws : List ℤ) {a : Command} {x : ℤ} where
+  pub signal-by : {k : ℤ} {v : Value} {m : Made} → a ≡ Signal k → v ≡ value k → m ≡ newSignal s c v → x ≡ numberWord (m .number) → done x (ranTo (m .after) l 0) (m .cells) ≡ performed s c l a ws
+  unfolding performed
+  signal-by h p q r = rw (h, ← p) (numbered-by l q r)
+
+  pub computed-by : {m : Made} → a ≡ Computed → m ≡ newComputed s c ws → x ≡ numberWord (m .number) → done x (ranTo (m .after) l 0) (m .cells) ≡ performed s c l a ws
+  unfolding performed
+  computed-by h q r = rw h (numbered-by l q r)
+
+  pub effect-by : {o : ℤ} {w : ℕ} {e : Started} → a ≡ Effect o → w ≡ ownerWord o → e ≡ newEffect s c l w ws → x ≡ numberWord (e .number) → done x (e .ran) (e .cells) ≡ performed s c l a ws
+  unfolding performed
+  effect-by h p q r = rw (h, ← p, ← q, r)
+
+  pub scope-by : {o : ℤ} {w : ℕ} {m : Made} → a ≡ Scope o → w ≡ ownerWord o → m ≡ newScope s c w → x ≡ numberWord (m .number) → done x (ranTo (m .after) l 0) (m .cells) ≡ performed s c l a ws
+  unfolding performed
+  scope-by h p q r = rw (h, ← p) (numbered-by l q r)
+
+  pub read-by : {k : ℤ} {n : ℕ} {g : Got} → a ≡ Read k → n ≡ nodeOf k → g ≡ readOf c s n → x ≡ g .value .word → done x (ranTo (g .after) l 0) c ≡ performed s c l a ws
+  unfolding performed
+  read-by h p q r = rw (h, ← p, ← q, r)
+
+module _ (s : State) (c l ws : List ℤ) {a : Command} where
+  pub set-by : {j k : ℤ} {n : ℕ} {v : Value} {r : Ran} → a ≡ Set j k → n ≡ nodeOf j → v ≡ value k → r ≡ written c s l n v → done (pos 0) r c ≡ performed s c l a ws
+  unfolding performed
+  set-by h p q e = rw (h, ← p, ← q, ← e)
+
+  pub add-by : {j k : ℤ} {n : ℕ} {v : Value} {r : Ran} → a ≡ Add j k → n ≡ nodeOf j → v ≡ value k → r ≡ added c s l n v → done (pos 0) r c ≡ performed s c l a ws
+  unfolding performed
+  add-by h p q e = rw (h, ← p, ← q, ← e)
+
+  pub dispose-by : {j : ℤ} {n : ℕ} {t : Tab} → a ≡ Dispose j → n ≡ nodeOf j → t ≡ disposed (tab (s .nodes) (s .links)) n → done (pos 0) (ranTo (state (t .nodes) (t .links) (s .values)) l 0) c ≡ performed s c l a ws
+  unfolding performed
+  dispose-by h p q = rw (h, ← p, ← q)
+
+  pub start-by : {n : List ℕ} → a ≡ Start → n ≡ started (s .nodes) → done (pos 0) (ranTo (state n (s .links) (s .values)) l 0) c ≡ performed s c l a ws
+  unfolding performed
+  start-by h p = rw (h, ← p)
+
+  pub end-by : {r : Ran} → a ≡ End → r ≡ endedBatch c s l → done (pos 0) r c ≡ performed s c l a ws
+  unfolding performed
+  end-by h p = rw (h, ← p)
+
+  pub unknown-by : a ≡ Unknown → done (pos 0) (ranTo s l 0) c ≡ performed s c l a ws
+  unfolding performed
+  unknown-by h = rw h

@@ -1,11 +1,12 @@
 -- `engine::perform::perform` meets its contract. Assumes nothing.
-use Rattle.operating.specs.Making.{newSignal}
 use mir.Syntax.{w64}
 use mir.Val.{toZ, ofZ}
 use mir.Facts.{toZ-ofZ}
 use mathlib.Core.Path.{_≡_, ap, _∙_}
-use Rattle.commanding.specs.Perform.{performed}
-use Rattle.commanding.proofs.EngineLaws.{numbered-by, read-by}
+use Rattle.primitive.specs.Values.{value}
+use Rattle.meaning.specs.Words.{nodeOf}
+use Rattle.commanding.specs.Perform.{ownerWord}
+use Rattle.commanding.proofs.EngineLaws.{signal-by, computed-by, effect-by, scope-by, set-by, add-by, read-by, dispose-by, start-by, end-by, unknown-by}
 use borrow.Author.Needs.{needs}
 use Rattle.engine.proofs.perform.perform.Statement.{statement}
 use Rattle.engine.proofs.perform.perform.Tie as tie
@@ -113,129 +114,123 @@ enum-told-4 : tie.Need-enum-told-4
 enum-told-4 c = search needs
 
 same-length : tie.Need-same-length
-same-length c = search needs
+same-length c = c .before .before .before .before .before .new-signal .kept .0
 
 same-length-2 : tie.Need-same-length-2
-same-length-2 c = search needs
+same-length-2 c = c .before .before .before .before .before .new-signal .kept .1 .0
 
 same-length-3 : tie.Need-same-length-3
-same-length-3 c = search needs
+same-length-3 c = c .before .before .before .before .before .new-signal .kept .1 .1 .0
 
 returns : tie.Need-returns
-unfolding performed
 returns c =
     let k : toZ w64 (ofZ w64 (c .before .before .before .before .before .before .before .before .before .before .before .command .given .0 .0)) ≡ c .before .before .before .before .before .before .before .before .before .before .before .command .given .0 .0 = toZ-ofZ (search needs) in
     let n : toZ w64 (ofZ w64 (c .number-word .result)) ≡ c .number-word .result = toZ-ofZ (search needs) in
-    rw (c .before .before .before .before .before .before .before .before .before .before .before .command .given .1, n) (numbered-by _ (c .before .before .before .before .before .new-signal .ensures (c .before .before .before .before .before .before .before .before .before .before .before .before .before .before .before .args .links .now) ∙ ap (newSignal _ _) (rw k at (c .before .before .before .before .before .before .of .ensures))) (c .number-word .ensures))
+    signal-by _ _ _ _ (c .before .before .before .before .before .before .before .before .before .before .before .command .given .1) (c .before .before .before .before .before .before .of .ensures ∙ ap value k) (c .before .before .before .before .before .new-signal .ensures (c .before .before .before .before .before .before .before .before .before .before .before .before .before .before .before .args .links .now)) (n ∙ c .number-word .ensures)
 
 same-length-4 : tie.Need-same-length-4
-same-length-4 c = search needs
+same-length-4 c = c .before .before .before .before .before .new-computed .kept .0
 
 same-length-5 : tie.Need-same-length-5
-same-length-5 c = search needs
+same-length-5 c = c .before .before .before .before .before .new-computed .kept .1 .0
 
 same-length-6 : tie.Need-same-length-6
-same-length-6 c = search needs
+same-length-6 c = c .before .before .before .before .before .new-computed .kept .1 .1 .0
 
 returns-2 : tie.Need-returns-2
-unfolding performed
 returns-2 c =
     let n : toZ w64 (ofZ w64 (c .number-word2 .result)) ≡ c .number-word2 .result = toZ-ofZ (search needs) in
-    rw (c .before .before .before .before .before .before .before .before .before .enum-told .given .1, n) (numbered-by _ (c .before .before .before .before .before .new-computed .ensures (c .before .before .before .before .before .before .before .before .before .before .before .before .before .args .links .now)) (c .number-word2 .ensures))
+    computed-by _ _ _ _ (c .before .before .before .before .before .before .before .before .before .enum-told .given .1) (c .before .before .before .before .before .new-computed .ensures (c .before .before .before .before .before .before .before .before .before .before .before .before .before .args .links .now)) (n ∙ c .number-word2 .ensures)
 
 same-length-7 : tie.Need-same-length-7
-same-length-7 c = search needs
+same-length-7 c = c .before .before .before .before .before .before .before .before .new-effect .kept .0
 
 same-length-8 : tie.Need-same-length-8
-same-length-8 c = search needs
+same-length-8 c = c .before .before .before .before .before .before .before .before .new-effect .kept .1 .0
 
 same-length-9 : tie.Need-same-length-9
-same-length-9 c = search needs
+same-length-9 c = c .before .before .before .before .before .before .before .before .new-effect .kept .1 .1 .0
 
 same-length-10 : tie.Need-same-length-10
-same-length-10 c = search needs
+same-length-10 c = c .before .before .before .before .before .before .before .before .new-effect .kept .1 .1 .1 .0
 
 same-length-11 : tie.Need-same-length-11
-same-length-11 c = search needs
+same-length-11 c = c .before .before .before .before .before .before .before .before .new-effect .kept .1 .1 .1 .1 .0
 
 returns-3 : tie.Need-returns-3
-unfolding performed
 returns-3 c =
     let o : toZ w64 (ofZ w64 (c .before .before .before .before .before .before .before .before .before .before .before .before .before .before .before .before .command2 .given .0 .0)) ≡ c .before .before .before .before .before .before .before .before .before .before .before .before .before .before .before .before .command2 .given .0 .0 = toZ-ofZ (search needs) in
     let n : toZ w64 (ofZ w64 (c .number-word3 .result)) ≡ c .number-word3 .result = toZ-ofZ (search needs) in
-    rw (c .before .before .before .before .before .before .before .before .before .before .before .before .before .before .before .before .command2 .given .1, n, c .number-word3 .ensures, ← rw o at (c .before .before .before .before .before .before .before .before .before .owner-word .ensures), ← c .before .before .before .before .before .before .before .before .new-effect .ensures)
+    effect-by _ _ _ _ (c .before .before .before .before .before .before .before .before .before .before .before .before .before .before .before .before .command2 .given .1) (c .before .before .before .before .before .before .before .before .before .owner-word .ensures ∙ ap ownerWord o) (c .before .before .before .before .before .before .before .before .new-effect .ensures) (n ∙ c .number-word3 .ensures)
 
 same-length-12 : tie.Need-same-length-12
-same-length-12 c = search needs
+same-length-12 c = c .before .before .before .before .before .before .before .new-scope .kept .0
 
 same-length-13 : tie.Need-same-length-13
-same-length-13 c = search needs
+same-length-13 c = c .before .before .before .before .before .before .before .new-scope .kept .1 .0
 
 same-length-14 : tie.Need-same-length-14
-same-length-14 c = search needs
+same-length-14 c = c .before .before .before .before .before .before .before .new-scope .kept .1 .1 .0
 
 same-length-15 : tie.Need-same-length-15
-same-length-15 c = search needs
+same-length-15 c = c .before .before .before .before .before .before .before .new-scope .kept .1 .1 .1 .0
 
 returns-4 : tie.Need-returns-4
-unfolding performed
 returns-4 c =
     let o : toZ w64 (ofZ w64 (c .before .before .before .before .before .before .before .before .before .before .before .before .before .before .command3 .given .0 .0)) ≡ c .before .before .before .before .before .before .before .before .before .before .before .before .before .before .command3 .given .0 .0 = toZ-ofZ (search needs) in
     let n : toZ w64 (ofZ w64 (c .number-word4 .result)) ≡ c .number-word4 .result = toZ-ofZ (search needs) in
-    rw (c .before .before .before .before .before .before .before .before .before .before .before .before .before .before .command3 .given .1, n, ← rw o at (c .before .before .before .before .before .before .before .before .owner-word2 .ensures)) (numbered-by _ (c .before .before .before .before .before .before .before .new-scope .ensures) (c .number-word4 .ensures))
+    scope-by _ _ _ _ (c .before .before .before .before .before .before .before .before .before .before .before .before .before .before .command3 .given .1) (c .before .before .before .before .before .before .before .before .owner-word2 .ensures ∙ ap ownerWord o) (c .before .before .before .before .before .before .before .new-scope .ensures) (n ∙ c .number-word4 .ensures)
 
 same-length-16 : tie.Need-same-length-16
-same-length-16 c = search needs
+same-length-16 c = c .before .before .before .before .before .before .set .kept .0
 
 same-length-17 : tie.Need-same-length-17
-same-length-17 c = search needs
+same-length-17 c = c .before .before .before .before .before .before .set .kept .1 .0
 
 same-length-18 : tie.Need-same-length-18
-same-length-18 c = search needs
+same-length-18 c = c .before .before .before .before .before .before .set .kept .1 .1 .0
 
 same-length-19 : tie.Need-same-length-19
 same-length-19 c = search needs
 
 same-length-20 : tie.Need-same-length-20
-same-length-20 c = search needs
+same-length-20 c = c .before .before .before .before .before .before .set .kept .1 .1 .1 .1 .0
 
 returns-5 : tie.Need-returns-5
-unfolding performed
 returns-5 c =
     let n : toZ w64 (ofZ w64 (c .before .before .before .before .before .before .before .before .before .before .before .before .before .before .before .command4 .given .0 .0)) ≡ c .before .before .before .before .before .before .before .before .before .before .before .before .before .before .before .command4 .given .0 .0 = toZ-ofZ (search needs) in
     let k : toZ w64 (ofZ w64 (c .before .before .before .before .before .before .before .before .before .before .before .before .before .before .before .command4 .given .0 .1 .0)) ≡ c .before .before .before .before .before .before .before .before .before .before .before .before .before .before .before .command4 .given .0 .1 .0 = toZ-ofZ (search needs) in
-    rw (c .before .before .before .before .before .before .before .before .before .before .before .before .before .before .before .command4 .given .1, ← rw n at (c .before .before .before .before .before .before .before .before .node-of .ensures), ← rw k at (c .before .before .before .before .before .before .before .of2 .ensures), ← c .before .before .before .before .before .before .set .ensures)
+    set-by _ _ _ _ (c .before .before .before .before .before .before .before .before .before .before .before .before .before .before .before .command4 .given .1) (c .before .before .before .before .before .before .before .before .node-of .ensures ∙ ap nodeOf n) (c .before .before .before .before .before .before .before .of2 .ensures ∙ ap value k) (c .before .before .before .before .before .before .set .ensures)
 
 same-length-21 : tie.Need-same-length-21
-same-length-21 c = search needs
+same-length-21 c = c .before .before .before .before .before .before .add .kept .0
 
 same-length-22 : tie.Need-same-length-22
-same-length-22 c = search needs
+same-length-22 c = c .before .before .before .before .before .before .add .kept .1 .0
 
 same-length-23 : tie.Need-same-length-23
-same-length-23 c = search needs
+same-length-23 c = c .before .before .before .before .before .before .add .kept .1 .1 .0
 
 same-length-24 : tie.Need-same-length-24
 same-length-24 c = search needs
 
 same-length-25 : tie.Need-same-length-25
-same-length-25 c = search needs
+same-length-25 c = c .before .before .before .before .before .before .add .kept .1 .1 .1 .1 .0
 
 returns-6 : tie.Need-returns-6
-unfolding performed
 returns-6 c =
     let n : toZ w64 (ofZ w64 (c .before .before .before .before .before .before .before .before .before .before .before .before .before .before .before .command5 .given .0 .0)) ≡ c .before .before .before .before .before .before .before .before .before .before .before .before .before .before .before .command5 .given .0 .0 = toZ-ofZ (search needs) in
     let k : toZ w64 (ofZ w64 (c .before .before .before .before .before .before .before .before .before .before .before .before .before .before .before .command5 .given .0 .1 .0)) ≡ c .before .before .before .before .before .before .before .before .before .before .before .before .before .before .before .command5 .given .0 .1 .0 = toZ-ofZ (search needs) in
-    rw (c .before .before .before .before .before .before .before .before .before .before .before .before .before .before .before .command5 .given .1, ← rw n at (c .before .before .before .before .before .before .before .before .node-of2 .ensures), ← rw k at (c .before .before .before .before .before .before .before .of3 .ensures), ← c .before .before .before .before .before .before .add .ensures)
+    add-by _ _ _ _ (c .before .before .before .before .before .before .before .before .before .before .before .before .before .before .before .command5 .given .1) (c .before .before .before .before .before .before .before .before .node-of2 .ensures ∙ ap nodeOf n) (c .before .before .before .before .before .before .before .of3 .ensures ∙ ap value k) (c .before .before .before .before .before .before .add .ensures)
 
 same-length-26 : tie.Need-same-length-26
-same-length-26 c = search needs
+same-length-26 c = c .before .before .before .before .before .before .read .kept .0
 
 same-length-27 : tie.Need-same-length-27
-same-length-27 c = search needs
+same-length-27 c = c .before .before .before .before .before .before .read .kept .1 .0
 
 same-length-28 : tie.Need-same-length-28
-same-length-28 c = search needs
+same-length-28 c = c .before .before .before .before .before .before .read .kept .1 .1 .0
 
 same-length-29 : tie.Need-same-length-29
 same-length-29 c = search needs
@@ -244,49 +239,48 @@ returns-7 : tie.Need-returns-7
 returns-7 c =
     let n : toZ w64 (ofZ w64 (c .before .before .before .before .before .before .before .before .before .before .before .before .before .command6 .given .0 .0)) ≡ c .before .before .before .before .before .before .before .before .before .before .before .before .before .command6 .given .0 .0 = toZ-ofZ (search needs) in
     let v : toZ w64 (ofZ w64 (c .before .before .before .before .before .before .read .result .word)) ≡ c .before .before .before .before .before .before .read .result .word = toZ-ofZ (search needs) in
-    rw (c .before .before .before .before .before .before .before .before .before .before .before .before .before .command6 .given .1, v) (read-by _ _ _ _ _ (rw n at (c .before .before .before .before .before .before .before .node-of3 .ensures)) (c .before .before .before .before .before .before .read .ensures))
+    read-by _ _ _ _ (c .before .before .before .before .before .before .before .before .before .before .before .before .before .command6 .given .1) (c .before .before .before .before .before .before .before .node-of3 .ensures ∙ ap nodeOf n) (c .before .before .before .before .before .before .read .ensures) v
 
 same-length-30 : tie.Need-same-length-30
-same-length-30 c = search needs
+same-length-30 c = c .before .before .before .before .dispose .kept .0
 
 same-length-31 : tie.Need-same-length-31
-same-length-31 c = search needs
+same-length-31 c = c .before .before .before .before .dispose .kept .1 .0
 
 returns-8 : tie.Need-returns-8
-unfolding performed
 returns-8 c =
     let n : toZ w64 (ofZ w64 (c .before .before .before .before .before .before .before .before .before .command7 .given .0 .0)) ≡ c .before .before .before .before .before .before .before .before .before .command7 .given .0 .0 = toZ-ofZ (search needs) in
-    rw (c .before .before .before .before .before .before .before .before .before .command7 .given .1, ← rw n at (c .before .before .before .before .before .node-of4 .ensures), ← c .before .before .before .before .dispose .ensures)
+    dispose-by _ _ _ _ (c .before .before .before .before .before .before .before .before .before .command7 .given .1) (c .before .before .before .before .before .node-of4 .ensures ∙ ap nodeOf n) (c .before .before .before .before .dispose .ensures)
 
 same-length-32 : tie.Need-same-length-32
-same-length-32 c = search needs
+same-length-32 c = c .before .before .start-batch .kept .0
 
 returns-9 : tie.Need-returns-9
-unfolding performed
-returns-9 c = rw (c .before .before .before .before .enum-told2 .given .1, ← c .before .before .start-batch .ensures)
+returns-9 c =
+    start-by _ _ _ _ (c .before .before .before .before .enum-told2 .given .1) (c .before .before .start-batch .ensures)
 
 same-length-33 : tie.Need-same-length-33
-same-length-33 c = search needs
+same-length-33 c = c .before .before .before .before .before .before .end-batch .kept .0
 
 same-length-34 : tie.Need-same-length-34
-same-length-34 c = search needs
+same-length-34 c = c .before .before .before .before .before .before .end-batch .kept .1 .0
 
 same-length-35 : tie.Need-same-length-35
-same-length-35 c = search needs
+same-length-35 c = c .before .before .before .before .before .before .end-batch .kept .1 .1 .0
 
 same-length-36 : tie.Need-same-length-36
 same-length-36 c = search needs
 
 same-length-37 : tie.Need-same-length-37
-same-length-37 c = search needs
+same-length-37 c = c .before .before .before .before .before .before .end-batch .kept .1 .1 .1 .1 .0
 
 returns-10 : tie.Need-returns-10
-unfolding performed
-returns-10 c = rw (c .before .before .before .before .before .before .before .before .before .before .before .before .enum-told3 .given .1, ← c .before .before .before .before .before .before .end-batch .ensures)
+returns-10 c =
+    end-by _ _ _ _ (c .before .before .before .before .before .before .before .before .before .before .before .before .enum-told3 .given .1) (c .before .before .before .before .before .before .end-batch .ensures)
 
 returns-11 : tie.Need-returns-11
-unfolding performed
-returns-11 c = rw (c .enum-told4 .given .1)
+returns-11 c =
+    unknown-by _ _ _ _ (c .enum-told4 .given .1)
 
 pub perform-spec : {M : Type 1} → statement M
 perform-spec =
