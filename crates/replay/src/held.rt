@@ -46,13 +46,17 @@ pub(crate) fn start() -> State {
     }
 }
 
-pub(crate) fn stopped(state: State) -> State {
+fn stopped(state: State) -> State {
     let mut next = state;
     next.on = false;
     next
 }
 
-pub(crate) fn read_more(buf: &mut [u8], files: Files, state: State) -> State {
+// One more read, where it is wanted.
+fn read_on(buf: &mut [u8], files: Files, state: State) -> State {
+    if !state.wanting {
+        return state;
+    }
     let mut next = state;
     let more = fill(
         files.scripts,
@@ -153,33 +157,51 @@ fn wants(state: State) -> State {
     next
 }
 
-// The answers of a script are over, perhaps with one that ends the run.
-fn ended(out: &[u8], bytes: usize, kept: &mut [u8], files: Files, state: State) -> State {
-    if bytes == 0 {
-        return moved(state, 0, Place::InLine);
+// Holds what a step says against what is stored.
+fn judged(out: &[u8], kept: &mut [u8], files: Files, what: Step, state: State) -> State {
+    match what {
+        Step::Answered(_, bytes) => compared(out, bytes, kept, files, state),
+        Step::Ended(bytes) => compared(out, bytes, kept, files, state),
+        Step::Next(_) => compared(b"%\n", 2, kept, files, state),
+        // No stored answer may be left.
+        Step::Stop => against(kept, files, state, 256),
+        Step::Read => state,
+        Step::Within(_) => state,
+        Step::Past(_) => state,
     }
-    let held = compared(out, bytes, kept, files, state);
-    counted(moved(held, 0, Place::InLine))
 }
 
-// Holds what a step says against what is stored; and where the run stands then.
-pub(crate) fn judged(out: &[u8], kept: &mut [u8], files: Files, what: Step, state: State) -> State {
+// The answers of a script are over, perhaps with one that ends the run.
+fn ended(bytes: usize, state: State) -> State {
+    let next = moved(state, 0, Place::InLine);
+    if bytes == 0 {
+        return next;
+    }
+    counted(next)
+}
+
+// Where the run stands after a step.
+fn stood(what: Step, state: State) -> State {
     match what {
         Step::Read => wants(state),
-        Step::Answered(used, bytes) => counted(moved(
-            compared(out, bytes, kept, files, state),
-            used,
-            Place::Open,
-        )),
-        Step::Ended(bytes) => ended(out, bytes, kept, files, state),
-        Step::Next(used) => passed(moved(
-            compared(b"%\n", 2, kept, files, state),
-            used,
-            Place::Open,
-        )),
+        Step::Answered(used, _) => counted(moved(state, used, Place::Open)),
+        Step::Ended(bytes) => ended(bytes, state),
+        Step::Next(used) => passed(moved(state, used, Place::Open)),
         Step::Within(used) => moved(state, used, Place::InLine),
         Step::Past(used) => moved(state, used, Place::AtLine),
-        // No stored answer may be left.
-        Step::Stop => stopped(against(kept, files, state, 256)),
+        Step::Stop => stopped(state),
     }
+}
+
+// What a step says, held against what is stored, and one more read where it is wanted.
+pub(crate) fn told(
+    out: &[u8],
+    buf: &mut [u8],
+    kept: &mut [u8],
+    files: Files,
+    what: Step,
+    state: State,
+) -> State {
+    let held = judged(out, kept, files, what, state);
+    read_on(buf, files, stood(what, held))
 }

@@ -48,6 +48,23 @@ fn sizes(nodes: u64, links: u64, cells: u64, rows: u64) -> Room {
     }
 }
 
+// Whether there is room for a pack: for 256 nodes, 1,024 links, 2,048 cells and 256 log rows.
+pub(crate) fn fits(room: Room) -> bool {
+    if room.node_words > 4112 {
+        return false;
+    }
+    if room.link_words > 8200 {
+        return false;
+    }
+    if room.cell_words > 4096 {
+        return false;
+    }
+    if room.value_words > 1024 {
+        return false;
+    }
+    room.log_words <= 512
+}
+
 // The capacities behind a pack's name at argument i.
 pub(crate) fn room_of(i: usize) -> Room {
     if i > 1000000 {

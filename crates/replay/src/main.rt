@@ -5,74 +5,18 @@ mod listed;
 
 use held::Files;
 use held::State;
-use held::judged;
-use held::read_more;
 use held::start;
-use held::stopped;
+use held::told;
 use libc::STDERR_FILENO;
 use listed::Room;
+use listed::fits;
 use listed::open;
 use listed::room_of;
 use listed::tell;
 use operations::emptying::empty;
 use script::packed::play;
-
-fn answer(
-    nodes: &mut [u64],
-    links: &mut [u64],
-    values: &mut [i64],
-    cells: &mut [i64],
-    log: &mut [i64],
-    words: &mut [i64],
-    out: &mut [u8],
-    window: &[u8],
-    kept: &mut [u8],
-    files: Files,
-    state: State,
-) -> State {
-    let place = state.place;
-    let what = play(
-        nodes,
-        links,
-        values,
-        cells,
-        log,
-        words,
-        out,
-        window,
-        state.over,
-        place,
-    );
-    judged(out, kept, files, what, state)
-}
-
-fn answered(
-    nodes: &mut [u64],
-    links: &mut [u64],
-    values: &mut [i64],
-    cells: &mut [i64],
-    log: &mut [i64],
-    window: &[u8],
-    kept: &mut [u8],
-    files: Files,
-    state: State,
-) -> State {
-    let mut words = [0i64; 2048];
-    let mut out = [0u8; 32768];
-    answer(
-        nodes,
-        links,
-        values,
-        cells,
-        log,
-        &mut words,
-        &mut out,
-        window,
-        kept,
-        files,
-        state,
-    )
-}
+use stream::least;
+ghost use Prim.Native.Nat.{_<_};
 
 // One pair, one line after a script, or one more read.
 fn step(
@@ -81,34 +25,29 @@ fn step(
     values: &mut [i64],
     cells: &mut [i64],
     log: &mut [i64],
+    words: &mut [i64],
+    out: &mut [u8],
     buf: &mut [u8],
     kept: &mut [u8],
     files: Files,
     state: State,
 ) -> State {
-    let at = state.at;
-    let end = state.end;
-    if buf.len() < end {
-        return stopped(state);
-    }
-    if end < at {
-        return stopped(state);
-    }
-    let next = answered(
+    let place = state.place;
+    let end = least(state.end, buf.len());
+    let at = least(state.at, end);
+    let what = play(
         nodes,
         links,
         values,
         cells,
         log,
+        words,
+        out,
         &buf[at..end],
-        kept,
-        files,
-        state,
+        state.over,
+        place,
     );
-    if next.wanting {
-        return read_more(buf, files, next);
-    }
-    next
+    told(out, buf, kept, files, what, state)
 }
 
 // Nothing says that a file ends, so the turns are counted down.
@@ -120,8 +59,11 @@ fn session(
     log: &mut [i64],
     files: Files,
 ) -> State {
+    let mut words = [0i64; 2048];
+    let mut out = [0u8; 32768];
     let mut buf = [0u8; 16384];
     let mut kept = [0u8; 16384];
+    empty(nodes, links, values, cells);
     let mut state = start();
     let mut turns = u64::MAX;
     while turns > 0 {
@@ -131,62 +73,39 @@ fn session(
             values,
             cells,
             log,
+            &mut words,
+            &mut out,
             &mut buf,
             &mut kept,
             files,
             state,
         );
-        if !state.on {
-            return state;
-        }
-        turns -= 1;
+        turns = left(turns, state.on);
     }
     state
 }
 
-fn begun(
-    nodes: &mut [u64],
-    links: &mut [u64],
-    values: &mut [i64],
-    cells: &mut [i64],
-    log: &mut [i64],
-    files: Files,
-) -> State {
-    empty(nodes, links, values, cells);
-    session(nodes, links, values, cells, log, files)
+// How many turns are left after one.
+fn left(turns: u64, on: bool) -> u64
+    requires { ⌜ 0 < turns ⌝ }
+    ensures { λ r. ⌜ r < turns ⌝ }
+{
+    if on { turns - 1 } else { 0 }
 }
 
-// The tables cut to a pack's lengths.
-fn sized(
-    nodes: &mut [u64],
-    links: &mut [u64],
-    values: &mut [i64],
-    cells: &mut [i64],
-    log: &mut [i64],
-    chosen: Room,
-    files: Files,
-) -> State {
-    let n = chosen.node_words;
-    let l = chosen.link_words;
-    let v = chosen.value_words;
-    let c = chosen.cell_words;
-    let r = chosen.log_words;
-    if nodes.len() < n {
-        return start();
-    }
-    if links.len() < l {
-        return start();
-    }
-    if values.len() < v {
-        return start();
-    }
-    if cells.len() < c {
-        return start();
-    }
-    if log.len() < r {
-        return start();
-    }
-    begun(
+// Room for 256 nodes, 1,024 links, 2,048 cells and 256 log rows, as the program has, cut to a pack's lengths.
+fn run(chosen: Room, files: Files) -> State {
+    let n = least(chosen.node_words, 4112);
+    let l = least(chosen.link_words, 8200);
+    let v = least(chosen.value_words, 1024);
+    let c = least(chosen.cell_words, 4096);
+    let r = least(chosen.log_words, 512);
+    let mut nodes = [0u64; 4112];
+    let mut links = [0u64; 8200];
+    let mut values = [0i64; 1024];
+    let mut cells = [0i64; 4096];
+    let mut log = [0i64; 512];
+    session(
         &mut nodes[0..n],
         &mut links[0..l],
         &mut values[0..v],
@@ -196,22 +115,12 @@ fn sized(
     )
 }
 
-// Room for 256 nodes, 1,024 links, 2,048 cells and 256 log rows, as the program has.
-fn run(chosen: Room, files: Files) -> State {
-    let mut nodes = [0u64; 4112];
-    let mut links = [0u64; 8200];
-    let mut values = [0i64; 1024];
-    let mut cells = [0i64; 4096];
-    let mut log = [0i64; 512];
-    sized(
-        &mut nodes,
-        &mut links,
-        &mut values,
-        &mut cells,
-        &mut log,
-        chosen,
-        files,
-    )
+// Of a pack that asks for more than there is room for, nothing is compared.
+fn found(chosen: Room, files: Files) -> State {
+    if fits(chosen) {
+        return run(chosen, files);
+    }
+    start()
 }
 
 fn pack(i: usize) {
@@ -225,7 +134,7 @@ fn pack(i: usize) {
     if files.answers < 0 {
         return;
     }
-    tell(i, run(room_of(i), files));
+    tell(i, found(room_of(i), files));
     libc::close(files.scripts);
     libc::close(files.answers);
 }

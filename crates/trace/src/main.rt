@@ -16,8 +16,10 @@ use script::packed::play;
 use stream::Window;
 use stream::after;
 use stream::fill;
+use stream::least;
 use stream::send;
 use view::dump;
+ghost use Prim.Native.Nat.{_<_};
 
 // Where the window and the script stand, and whether the run goes on.
 struct State {
@@ -58,114 +60,59 @@ fn moved(state: State, used: usize, place: Place, on: bool) -> State {
     }
 }
 
-// Writes what a step has to say; where that fails the run stops.
-fn written(out: &[u8], what: Step) -> Step {
+// Writes what a step has to say.
+fn written(out: &[u8], what: Step) -> bool {
     match what {
-        Step::Answered(used, bytes) => {
-            if send(STDOUT_FILENO, out, bytes) {
-                return Step::Answered(used, bytes);
-            }
-            Step::Stop
-        }
-        Step::Ended(bytes) => {
-            if send(STDOUT_FILENO, out, bytes) {
-                return Step::Ended(bytes);
-            }
-            Step::Stop
-        }
-        Step::Next(used) => {
-            if send(STDOUT_FILENO, b"%\n", 2) {
-                return Step::Next(used);
-            }
-            Step::Stop
-        }
-        Step::Read => Step::Read,
-        Step::Within(used) => Step::Within(used),
-        Step::Past(used) => Step::Past(used),
-        Step::Stop => Step::Stop,
+        Step::Answered(_, bytes) => send(STDOUT_FILENO, out, bytes),
+        Step::Ended(bytes) => send(STDOUT_FILENO, out, bytes),
+        Step::Next(_) => send(STDOUT_FILENO, b"%\n", 2),
+        Step::Read => true,
+        Step::Within(_) => true,
+        Step::Past(_) => true,
+        Step::Stop => false,
     }
 }
 
-fn answer(
-    nodes: &mut [u64],
-    links: &mut [u64],
-    values: &mut [i64],
-    cells: &mut [i64],
-    log: &mut [i64],
-    words: &mut [i64],
-    out: &mut [u8],
-    window: &[u8],
-    over: bool,
-    place: Place,
-) -> Step {
-    let what = play(
-        nodes,
-        links,
-        values,
-        cells,
-        log,
-        words,
-        out,
-        window,
-        over,
-        place,
-    );
-    written(out, what)
-}
-
-fn answered(
-    nodes: &mut [u64],
-    links: &mut [u64],
-    values: &mut [i64],
-    cells: &mut [i64],
-    log: &mut [i64],
-    window: &[u8],
-    over: bool,
-    place: Place,
-) -> Step {
-    let mut words = [0i64; 2048];
-    let mut out = [0u8; 32768];
-    answer(
-        nodes,
-        links,
-        values,
-        cells,
-        log,
-        &mut words,
-        &mut out,
-        window,
-        over,
-        place,
-    )
-}
-
-fn shown(nodes: &[u64], links: &[u64], values: &[i64], tables: bool) -> bool {
-    if !tables {
-        return true;
+// Whether the tables are to be shown.
+fn shows(tables: bool, what: Step) -> bool {
+    match what {
+        Step::Answered(_, _) => tables,
+        Step::Read => false,
+        Step::Ended(_) => false,
+        Step::Next(_) => false,
+        Step::Within(_) => false,
+        Step::Past(_) => false,
+        Step::Stop => false,
     }
-    dump(nodes, links, values)
 }
 
-// The tables after a command, or one more read; and where the run stands then.
+// Writes what a step has to say and the tables after a command; where that fails the run stops.
 fn told(
     nodes: &[u64],
     links: &[u64],
     values: &[i64],
-    buf: &mut [u8],
+    out: &[u8],
     tables: bool,
     what: Step,
-    state: State,
-) -> State {
+) -> bool {
+    if !written(out, what) {
+        return false;
+    }
+    if shows(tables, what) {
+        return dump(nodes, links, values);
+    }
+    true
+}
+
+// Where the run stands after a step, perhaps after one more read.
+fn stood(buf: &mut [u8], what: Step, state: State, on: bool) -> State {
     match what {
         Step::Read => read_more(buf, state),
-        Step::Answered(used, _) => {
-            let on = shown(nodes, links, values, tables);
-            moved(state, used, Place::Open, on)
-        }
-        Step::Ended(_) => moved(state, 0, Place::InLine, true),
-        Step::Next(used) => moved(state, used, Place::Open, true),
-        Step::Within(used) => moved(state, used, Place::InLine, true),
-        Step::Past(used) => moved(state, used, Place::AtLine, true),
+        Step::Answered(used, _) => moved(state, used, Place::Open, on),
+        Step::Ended(_) => moved(state, 0, Place::InLine, on),
+        Step::Next(used) => moved(state, used, Place::Open, on),
+        Step::Within(used) => moved(state, used, Place::InLine, on),
+        Step::Past(used) => moved(state, used, Place::AtLine, on),
         Step::Stop => moved(state, 0, Place::AtLine, false),
     }
 }
@@ -177,30 +124,29 @@ fn step(
     values: &mut [i64],
     cells: &mut [i64],
     log: &mut [i64],
+    words: &mut [i64],
+    out: &mut [u8],
     buf: &mut [u8],
     tables: bool,
     state: State,
 ) -> State {
-    let at = state.at;
-    let end = state.end;
     let place = state.place;
-    if buf.len() < end {
-        return moved(state, 0, Place::AtLine, false);
-    }
-    if end < at {
-        return moved(state, 0, Place::AtLine, false);
-    }
-    let what = answered(
+    let end = least(state.end, buf.len());
+    let at = least(state.at, end);
+    let what = play(
         nodes,
         links,
         values,
         cells,
         log,
+        words,
+        out,
         &buf[at..end],
         state.over,
         place,
     );
-    told(nodes, links, values, buf, tables, what, state)
+    let on = told(nodes, links, values, out, tables, what);
+    stood(buf, what, state, on)
 }
 
 // Nothing says that the input ends, so the turns are counted down.
@@ -212,7 +158,10 @@ fn session(
     log: &mut [i64],
     tables: bool,
 ) {
+    let mut words = [0i64; 2048];
+    let mut out = [0u8; 32768];
     let mut buf = [0u8; 16384];
+    empty(nodes, links, values, cells);
     let mut state = State {
         at: 0,
         end: 0,
@@ -222,79 +171,49 @@ fn session(
     };
     let mut turns = u64::MAX;
     while turns > 0 {
-        state = step(nodes, links, values, cells, log, &mut buf, tables, state);
-        if !state.on {
-            return;
-        }
-        turns -= 1;
+        state = step(
+            nodes,
+            links,
+            values,
+            cells,
+            log,
+            &mut words,
+            &mut out,
+            &mut buf,
+            tables,
+            state,
+        );
+        turns = left(turns, state.on);
     }
 }
 
-fn begun(
-    nodes: &mut [u64],
-    links: &mut [u64],
-    values: &mut [i64],
-    cells: &mut [i64],
-    log: &mut [i64],
-    tables: bool,
-) {
-    empty(nodes, links, values, cells);
-    session(nodes, links, values, cells, log, tables);
+// How many turns are left after one.
+fn left(turns: u64, on: bool) -> u64
+    requires { ⌜ 0 < turns ⌝ }
+    ensures { λ r. ⌜ r < turns ⌝ }
+{
+    if on { turns - 1 } else { 0 }
 }
 
-// The tables cut to the chosen lengths.
-fn sized(
-    nodes: &mut [u64],
-    links: &mut [u64],
-    values: &mut [i64],
-    cells: &mut [i64],
-    log: &mut [i64],
-    chosen: Options,
-) {
-    let n = chosen.node_words;
-    let l = chosen.link_words;
-    let v = chosen.value_words;
-    let c = chosen.cell_words;
-    let r = chosen.log_words;
-    if nodes.len() < n {
-        return;
-    }
-    if links.len() < l {
-        return;
-    }
-    if values.len() < v {
-        return;
-    }
-    if cells.len() < c {
-        return;
-    }
-    if log.len() < r {
-        return;
-    }
-    begun(
+// Room for 1,024 nodes, 8,192 links, 8,192 cells and 1,024 log rows, cut to the chosen lengths.
+fn run(chosen: Options) {
+    let n = least(chosen.node_words, 16400);
+    let l = least(chosen.link_words, 65544);
+    let v = least(chosen.value_words, 4096);
+    let c = least(chosen.cell_words, 16384);
+    let r = least(chosen.log_words, 2048);
+    let mut nodes = [0u64; 16400];
+    let mut links = [0u64; 65544];
+    let mut values = [0i64; 4096];
+    let mut cells = [0i64; 16384];
+    let mut log = [0i64; 2048];
+    session(
         &mut nodes[0..n],
         &mut links[0..l],
         &mut values[0..v],
         &mut cells[0..c],
         &mut log[0..r],
         chosen.tables,
-    );
-}
-
-// Room for 1,024 nodes, 8,192 links, 8,192 cells and 1,024 log rows.
-fn run(chosen: Options) {
-    let mut nodes = [0u64; 16400];
-    let mut links = [0u64; 65544];
-    let mut values = [0i64; 4096];
-    let mut cells = [0i64; 16384];
-    let mut log = [0i64; 2048];
-    sized(
-        &mut nodes,
-        &mut links,
-        &mut values,
-        &mut cells,
-        &mut log,
-        chosen,
     );
 }
 

@@ -1,15 +1,18 @@
 -- `replay::session` is safe and ends. Assumes nothing.
-use lib.ListN.{length}
 use mathlib.Core.Path.{_≡_}
+use lib.ListN.{length}
 use borrow.Author.Needs.{needs}
 use Rattle.replay.proofs.session.Statement.{statement}
 use Rattle.replay.proofs.session.Tie as tie
 
 abbrev Inv-loop : tie.InvT-loop
-Inv-loop nodes₀ links₀ values₀ cells₀ log₀ files buf₀ kept₀ state₀ turns₀ nodes links values cells log buf kept state turns = (length nodes ≡ length nodes₀) × (length links ≡ length links₀) × (length values ≡ length values₀) × (length cells ≡ length cells₀) × (length log ≡ length log₀) × (length buf ≡ 16384) × (length kept ≡ 16384)
+Inv-loop nodes₀ links₀ values₀ cells₀ log₀ files words₀ out₀ buf₀ kept₀ state₀ turns₀ nodes links values cells log words out buf kept state turns = (length nodes ≡ length nodes₀) × (length links ≡ length links₀) × (length values ≡ length values₀) × (length cells ≡ length cells₀) × (length log ≡ length log₀) × (length words ≡ 2048) × (length out ≡ 32768) × (length buf ≡ 16384) × (length kept ≡ 16384)
 
 abbrev μ-loop : tie.MeasureT-loop
-μ-loop nodes₀ links₀ values₀ cells₀ log₀ files buf₀ kept₀ state₀ turns₀ nodes links values cells log buf kept state turns = turns
+μ-loop nodes₀ links₀ values₀ cells₀ log₀ files words₀ out₀ buf₀ kept₀ state₀ turns₀ nodes links values cells log words out buf kept state turns = turns
+
+empty-requires : tie.Need-empty-requires Inv-loop μ-loop
+empty-requires c κs = search needs
 
 start-requires : tie.Need-start-requires Inv-loop μ-loop
 start-requires c κs = search needs
@@ -23,8 +26,23 @@ slice-aggregate-step c = search needs
 slice-aggregate-step-2 : tie.Need-slice-aggregate-step-2 Inv-loop μ-loop
 slice-aggregate-step-2 c = search needs
 
+slice-aggregate-step-3 : tie.Need-slice-aggregate-step-3 Inv-loop μ-loop
+slice-aggregate-step-3 c = search needs
+
+slice-aggregate-step-4 : tie.Need-slice-aggregate-step-4 Inv-loop μ-loop
+slice-aggregate-step-4 c = search needs
+
 step-requires : tie.Need-step-requires Inv-loop μ-loop
 step-requires c κs = search needs
+
+left-requires : tie.Need-left-requires Inv-loop μ-loop
+left-requires c κs = search needs
+
+loop-less : tie.Need-loop-less Inv-loop μ-loop
+loop-less c = search needs
+
+loop-again : tie.Need-loop-again Inv-loop μ-loop
+loop-again c = search needs
 
 same-length : tie.Need-same-length Inv-loop μ-loop
 same-length c = search needs
@@ -44,56 +62,26 @@ same-length-5 c = search needs
 returns : tie.Need-returns Inv-loop μ-loop
 returns c = search needs
 
-sub-turns : tie.Need-sub-turns Inv-loop μ-loop
-sub-turns c = search needs
-
-loop-less : tie.Need-loop-less Inv-loop μ-loop
-loop-less c = search needs
-
-loop-again : tie.Need-loop-again Inv-loop μ-loop
-loop-again c = search needs
-
-same-length-6 : tie.Need-same-length-6 Inv-loop μ-loop
-same-length-6 c = search needs
-
-same-length-7 : tie.Need-same-length-7 Inv-loop μ-loop
-same-length-7 c = search needs
-
-same-length-8 : tie.Need-same-length-8 Inv-loop μ-loop
-same-length-8 c = search needs
-
-same-length-9 : tie.Need-same-length-9 Inv-loop μ-loop
-same-length-9 c = search needs
-
-same-length-10 : tie.Need-same-length-10 Inv-loop μ-loop
-same-length-10 c = search needs
-
-returns-2 : tie.Need-returns-2 Inv-loop μ-loop
-returns-2 c = search needs
-
 pub session-spec : {M : Type 1} → statement M
 session-spec =
     tie.close
     (tie.spec
     Inv-loop
     μ-loop
+    empty-requires
     start-requires
     loop-holds
     slice-aggregate-step
     slice-aggregate-step-2
+    slice-aggregate-step-3
+    slice-aggregate-step-4
     step-requires
+    left-requires
+    loop-less
+    loop-again
     same-length
     same-length-2
     same-length-3
     same-length-4
     same-length-5
-    returns
-    sub-turns
-    loop-less
-    loop-again
-    same-length-6
-    same-length-7
-    same-length-8
-    same-length-9
-    same-length-10
-    returns-2)
+    returns)
