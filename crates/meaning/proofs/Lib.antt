@@ -48,6 +48,7 @@ pub mod Enough
 pub mod Turning
 pub mod NotSo
 pub mod Cycle
+pub mod Turned
 pub mod Valued
 pub mod Written
 pub mod Promised
