@@ -14,8 +14,8 @@ use Rattle.trees.specs.Cells.{naturalOf}
 use Rattle.trees.proofs.CellLaws.{natural-pos, natural-neg}
 use Rattle.telling.specs.Whole.{describedIn}
 use Rattle.resting.specs.Joined.{joinedIn}
-use Rattle.primitive.specs.declared.values.Value.{Value}
-use Rattle.primitive.specs.Values.{value}
+use Rattle.values.specs.declared.Value.{Value}
+use Rattle.values.specs.Values.{value}
 use Rattle.linking.specs.Table.{Tab, tab}
 use Rattle.linking.specs.Ring.{disposed}
 use Rattle.reading.specs.Tables.{State, state, Got}

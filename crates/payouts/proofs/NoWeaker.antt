@@ -1,4 +1,4 @@
--- Demand 3 leaves no freedom on lent tables either: an engine that keeps it answers and logs as `command` does, and leaves tables of document 01's state. Assumes nothing.
+-- What demand 3 fixes on lent tables: an engine that keeps it answers and logs as `command` does, and leaves tables of document 01's state, alike to those of `command` in each word that says something. Assumes nothing.
 use mathlib.Core.Path.{_≡_, refl, sym, ap, ap₂, _∙_, subst}
 use mathlib.Core.Bool.{true}
 use mathlib.Core.List.{List, [], _∷_}
@@ -17,14 +17,16 @@ use Rattle.meaning.proofs.Kept.{command-stays}
 use Rattle.freshness.specs.History.{Reply, Past, told, begun, inCalls}
 use Rattle.freshness.proofs.NoWeaker.{one-right, told-ours, told-many, upTo, upTo-told}
 use Rattle.structure.specs.Rep.{Rep, Lengths}
+use Rattle.structure.specs.Alike.{SameLengths, Alike}
 use Rattle.structure.specs.Histories.{Tables, cleared, left, Lent, answeredOn, meantOn, tablesAfter, stateAfter}
+use Rattle.structure.proofs.Lossless.{same-lengths, loses-nothing}
 use Rattle.structure.proofs.Histories.{history-same}
 use Rattle.payouts.specs.OnTables.{TableEngine, call, calls, Seen, seenOf, seenOn, leftOn, Stand, Shows, RightOn, AllRight, Demand3On}
 use Rattle.payouts.proofs.OfCommand.{demand3-of-command}
 
 -- one reply is right, whatever words show it, though what a run read is in no word
-pub one-reply : (p : Past) (c : Lent) (a b : Answered) (r q : Reply) → RightOn p c a r (told p (call c) r) → RightOn p c b q (told p (call c) q) → told p (call c) r .many < 2 ^ 64 → r ≡ q
-one-reply p c a b r q R Q few =
+pub one-reply : (p : Past) (t u : Tables) (c : Lent) (a b : Answered) (r q : Reply) → RightOn p t c a r (told p (call c) r) → RightOn p u c b q (told p (call c) q) → told p (call c) r .many < 2 ^ 64 → r ≡ q
+one-reply p t u c a b r q R Q few =
     let m = told-many p (call c) r in
     let n = told-many p (call c) q in
     one-right p (call c) r q (R .right few) (Q .right (omega arith))
@@ -45,7 +47,7 @@ module _ (E F : TableEngine) where
   alike (c ∷ h) t u p A B few =
       let r = A .0 in
       let e = upTo-told p (call c) r (calls h) in
-      let same = one-reply p c (E t c) (F u c) r (B .0) (A .1) (B .1) (omega arith) in
+      let same = one-reply p t u c (E t c) (F u c) r (B .0) (A .1) (B .1) (omega arith) in
       let shows = subst (λ (x : Reply). Shows (c .0) (F u c) x) (sym same) (B .1 .shows) in
       let rest = alike h (left (E t c)) (left (F u c)) (told p (call c) r) (A .2) (subst (λ (x : Reply). AllRight F (told p (call c) x) (left (F u c)) h) (sym same) (B .2)) (omega arith) in
       ap₂ (λ (x : Seen) (xs : List Seen). x ∷ xs) (shown-one (c .0) (E t c) (F u c) r (A .1 .shows) shows) rest
@@ -98,3 +100,18 @@ no-other-tables E d N L W C carry h few =
       of-values = long .of-values ∙ sym (lent .value-words);
       of-cells = long .of-cells ∙ sym (lent .cell-words);
     }
+
+-- ALIKE TABLES: those that an engine which keeps demand 3 leaves and those that `command` leaves after the same calls are as long, and agree in each word that says something (`Alike`).
+-- What demand 3 leaves free are the other words after accepted calls; demand 2 fixes them for `command`.
+pub alike-tables : (E : TableEngine) → Demand3On E → (N L : List ℕ) (W C : List ℤ) → carryIn N L W C ≡ true → (h : List Lent) → inCalls (empty (roomIn N L C)) (calls h) < 2 ^ 64
+    → let t = leftOn E (cleared (emptying N L W C)) h in let u = tablesAfter (cleared (emptying N L W C)) h in
+    SameLengths (t .nodes) (t .links) (t .values) (t .cells) (u .nodes) (u .links) (u .values) (u .cells) × Alike (t .nodes) (t .links) (t .values) (t .cells) (u .nodes) (u .links) (u .values) (u .cells)
+alike-tables E d N L W C carry h few =
+    let t = leftOn E (cleared (emptying N L W C)) h in
+    let u = tablesAfter (cleared (emptying N L W C)) h in
+    let s = stateAfter (empty (roomIn N L C)) h in
+    let r = no-other-tables E d N L W C carry h few .represent in
+    let o = history-same N L W C carry h in (
+      same-lengths (t .nodes) (t .links) (t .values) (t .cells) (u .nodes) (u .links) (u .values) (u .cells) s r (o .represents) (o .formed),
+      loses-nothing (t .nodes) (t .links) (t .values) (t .cells) (u .nodes) (u .links) (u .values) (u .cells) s r (o .represents) (o .formed),
+    )

@@ -1,11 +1,11 @@
--- The theorem used on a closed history of words, its premise computed: it is not empty. An engine whose run count is invented fails it, and one whose tables grow. Assumes nothing.
-use mathlib.Core.Path.{_≡_, refl, ap, _∙_}
+-- The theorem used on a closed history of words, its premise computed: it is not empty. An engine whose run count is invented fails it, one whose tables grow, and one that writes into a spare word where it refuses. Assumes nothing.
+use mathlib.Core.Path.{_≡_, refl, sym, ap, _∙_}
 use mathlib.Core.Bool.{true}
 use mathlib.Core.List.{List, [], _∷_, _++_}
 use Prim.Native.Nat.{ℕ, _+_, _*_, _<_, _^_}
 use native.Mathlib.Omega.{arith}
 use lib.IntN.{ℤ, pos, negsuc}
-use lib.ListN.{replicate, length, length-append, drop}
+use lib.ListN.{replicate, length, length-append, drop, getD, set}
 use Rattle.values.specs.Values.{value, sum, difference, minimum, maximum, less, clamp, same, sameNumber, isZero}
 use Rattle.trees.specs.Cells.{cellOf, codes, readOf, bareOf}
 use Rattle.trees.specs.Trees.{apply, written, size, names}
@@ -20,17 +20,20 @@ use Rattle.meaning.specs.Refusals.{liveEffects, asksOf, isA, unknown, wrongNode
 use Rattle.meaning.specs.Commands.{perform, performAny, answer, command}
 use Rattle.meaning.specs.Evaluations.{inFormula, inUpdate, inCheckOn, inCheck, inPending, countFirst, countFlushOn, countFresh, countFreshW, countNewEffect, countPerform, countRerun, countRun, countStore}
 use Rattle.meaning.specs.State.{St, Row}
+use Rattle.meaning.proofs.Laws.{false≢true}
 use Rattle.counting.specs.Counts.{wholeRows, withinMost, withinAll, carryIn}
 use Rattle.refusing.specs.Sight.{roomIn}
 use Rattle.operating.specs.Log.{rowWords}
-use Rattle.operating.specs.Emptying.{emptying}
-use Rattle.commanding.specs.Command.{answered}
+use Rattle.operating.specs.Emptying.{zeroed, emptying}
+use Rattle.commanding.specs.Command.{Answered, answered}
 use Rattle.freshness.specs.Evaluations.{inPerformAny, inAnswer}
 use Rattle.freshness.specs.History.{Reply, meant, replies, inCall, inCalls, Past, told, begun}
 use Rattle.freshness.specs.Right.{Right, RightLog}
 use Rattle.freshness.proofs.NoWeaker.{told-ours, told-many, no-weaker-log}
 use Rattle.structure.specs.Logged.{wordsOf}
-use Rattle.structure.specs.Histories.{Tables, cleared, left, Lent, answeredOn, tablesAfter}
+use Rattle.structure.specs.Histories.{Tables, cleared, left, Lent, answeredOn, tablesAfter, stateAfter, Holds}
+use Rattle.structure.proofs.Histories.{answers-same, history-same}
+use Rattle.structure.proofs.Demand1.{refused-unchanged}
 use Rattle.payouts.specs.OnTables.{TableEngine, call, calls, Seen, seenOn, leftOn, Shows, HeldIn, AllRight, Demand3On}
 use Rattle.payouts.proofs.OfCommand.{demand3-of-command}
 use Rattle.payouts.proofs.NoWeaker.{no-weaker-on, no-other-tables}
@@ -147,3 +150,31 @@ not-grown d =
     let f = no-other-tables answeredOn demand3-of-command N L W C carries (signal5 ∷ []) (omega arith) .of-cells in
     let g = length-append (answeredOn t signal5 .cells) (pos 0 ∷ pos 0 ∷ []) in
     absurd (omega arith)
+
+-- ---- an engine that is `command`, and writes 7 into a spare word of the values after each call, refused ones too
+abbrev scribbles : TableEngine
+scribbles t c = let a = answeredOn t c in answered (a .code) (a .value) (a .runs) (a .nodes) (a .links) (set (a .values) 1 (pos 7)) (a .cells) (a .log)
+
+-- no command: refused
+abbrev nothing-said : Lent
+nothing-said = ([], [])
+
+no-command : meant s₀ (call nothing-said) .code ≡ 2
+unfolding sum difference minimum maximum less clamp same sameNumber isZero cellOf codes readOf bareOf apply written size names up below empty provided remove each renew spent insert link cut lastLink disposeW unwatchedW unlinkN chain calm effects notify mark prop soil wakes evalBy settleW firstW updComputed updSignal updW sameSlots steady checkOn checkW pendingW freshW fresh logged rerun run flushOn store tallest newSignal newComputed newScope newEffect noWord word wholeCells commands commandOf afterCells grown parse treeOf total reserve liveEffects asksOf isA unknown wrongNode goneNode allReadable badFormula tooHigh noRoom wrongDepth fewRows refusals first refusal perform performAny answer command inFormula countFirst inUpdate inCheckOn inCheck inPending countFreshW countFresh countRerun countRun countFlushOn countStore countNewEffect countPerform inPerformAny inAnswer
+no-command = refl
+
+blanked : emptying N L W C .values ≡ replicate 8 (pos 0)
+unfolding emptying carryIn wholeRows withinAll withinMost zeroed
+blanked = refl
+
+pub not-scribbled : Demand3On scribbles → ⊥
+unfolding Demand3On AllRight tablesAfter stateAfter isZero same sameNumber
+not-scribbled d =
+    let t = cleared (emptying N L W C) in
+    let o : Holds t s₀ = history-same N L W C carries [] in
+    let code : answeredOn t nothing-said .code ≡ 2 = answers-same t s₀ nothing-said o .code ∙ no-command in
+    let other : answeredOn t nothing-said .code ≡ 0 → ⊥ = λ z. absurd (omega arith) in
+    let kept : answeredOn t nothing-said .values ≡ t .values = ap (λ (x : Answered). x .values) (refused-unchanged (t .nodes) (t .links) (t .values) (t .cells) [] [] other) in
+    let asked : set (answeredOn t nothing-said .values) 1 (pos 7) ≡ t .values = ap (λ (x : Tables). x .values) (d N L W C carries (nothing-said ∷ []) .1 .refused other .0) in
+    let zeros : set (replicate 8 (pos 0)) 1 (pos 7) ≡ replicate 8 (pos 0) = sym (ap (λ (v : List ℤ). set v 1 (pos 7)) (kept ∙ blanked)) ∙ asked ∙ blanked in
+    false≢true (ap (λ (v : List ℤ). isZero (value (getD v 1 (pos 0)))) zeros)

@@ -70,16 +70,21 @@ pub record HeldIn (t : Tables) (p : Past) : Type 0 where
   pub represents : Rep (t .nodes) (t .links) (t .values) (t .cells) state
   pub held : Held state p
 
--- the answer a to the call c shows the reply r, which is right, and leaves tables that hold what was told; p: before it, q: after it
-pub record RightOn (p : Past) (c : Lent) (a : Answered) (r : Reply) (q : Past) : Type 0 where
+-- document 01, of a refused call: every lent word unchanged, those that say nothing too; t: the tables before it
+abbrev pub Unchanged : Tables → Lent → Answered → Type 0
+Unchanged t c a = (left a ≡ t) × (a .log ≡ c .0)
+
+-- the answer a to the call c on the tables t shows the reply r, which is right, and leaves tables that hold what was told; p: before it, q: after it
+pub record RightOn (p : Past) (t : Tables) (c : Lent) (a : Answered) (r : Reply) (q : Past) : Type 0 where
   pub shows : Shows (c .0) a r
   pub right : q .many < 2 ^ 64 → Right p (call c) r q
   pub held : q .many < 2 ^ 64 → HeldIn (left a) q
+  pub refused : (a .code ≡ 0 → ⊥) → Unchanged t c a
 
 -- each call of a history, on the tables that the one before it left
 unfoldable pub AllRight : TableEngine → Past → Tables → List Lent → Type 0
 AllRight E p t [] = Unit {0}
-AllRight E p t (c ∷ cs) = (r : Reply) × RightOn p c (E t c) r (told p (call c) r) × AllRight E (told p (call c) r) (left (E t c)) cs
+AllRight E p t (c ∷ cs) = (r : Reply) × RightOn p t c (E t c) r (told p (call c) r) × AllRight E (told p (call c) r) (left (E t c)) cs
 
 -- tables of any words, of lengths that carry capacities, once they are emptied; any calls, each with a lent log of its own
 unfoldable pub Demand3On : TableEngine → Type 0

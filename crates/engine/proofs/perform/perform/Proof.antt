@@ -3,7 +3,7 @@ use mir.Syntax.{w64}
 use mir.Val.{toZ, ofZ}
 use mir.Facts.{toZ-ofZ}
 use mathlib.Core.Path.{_≡_, ap, _∙_}
-use Rattle.primitive.specs.Values.{value}
+use Rattle.values.specs.Values.{value}
 use Rattle.meaning.specs.Words.{nodeOf}
 use Rattle.commanding.specs.Perform.{ownerWord}
 use Rattle.commanding.proofs.EngineLaws.{signal-by, computed-by, effect-by, scope-by, set-by, add-by, read-by, dispose-by, start-by, end-by, unknown-by}
