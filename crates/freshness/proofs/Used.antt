@@ -1,10 +1,10 @@
 -- The theorem of demand 3 used on a closed history, its premise computed: it is not empty. Assumes nothing.
-use mathlib.Core.Path.{_≡_, refl}
+use mathlib.Core.Path.{_≡_, refl, sym}
 use mathlib.Core.List.{List, [], _∷_}
 use Prim.Native.Nat.{ℕ}
 use native.Mathlib.Omega.{arith}
 use lib.IntN.{ℤ, pos, negsuc}
-use Rattle.values.specs.Values.{sum, difference, minimum, maximum, less, clamp, same, sameNumber, isZero}
+use Rattle.values.specs.Values.{value, sum, difference, minimum, maximum, less, clamp, same, sameNumber, isZero}
 use Rattle.trees.specs.Cells.{cellOf, codes, readOf, bareOf}
 use Rattle.trees.specs.Trees.{apply, written, size, names}
 use Rattle.meaning.specs.State.{up, below, empty}
@@ -20,8 +20,8 @@ use Rattle.freshness.specs.Afresh.{recorded}
 use Rattle.meaning.specs.Evaluations.{inFormula, inUpdate, inCheckOn, inCheck, inPending, countFirst, countFlushOn, countFresh, countFreshW, countNewEffect, countPerform, countRerun, countRun, countStore}
 use Rattle.freshness.specs.Evaluations.{inPerformAny, inAnswer}
 use Rattle.meaning.specs.State.{Room}
-use Rattle.freshness.specs.History.{Call, Reply, seen, meant, replies, inCalls, written as lastWritten, next, Course, after, now, begin}
-use Rattle.freshness.specs.Right.{Right, Held, Demand3}
+use Rattle.freshness.specs.History.{Call, Reply, seen, meant, replies, inCalls, written as lastWritten, next, Past, Course, after, now, begin}
+use Rattle.freshness.specs.Right.{Right, Agrees, Held, Demand3}
 use Rattle.freshness.proofs.History.{demand3}
 
 abbrev pub room : Room
@@ -49,6 +49,11 @@ before = after meant (begin room) history
 pub used : Right (before .past) last (seen (meant (before .st) last)) (now meant before last .past) × Held (meant (before .st) last .st) (now meant before last .past)
 unfolding Demand3
 used = demand3 room refl history last (let e = four in omega arith)
+
+-- the state after it agrees with no past but one in which 3 was last written to signal 0: a signal's last written value is pending
+pub pends : (p : Past) → Agrees (meant (before .st) last .st) p → p .last 0 ≡ value (pos 3)
+unfolding sum difference minimum maximum less clamp same sameNumber isZero cellOf codes readOf bareOf apply written size names up below empty provided remove each renew spent insert link cut lastLink disposeW unwatchedW unlinkN chain calm effects notify mark prop soil wakes evalBy settleW firstW updComputed updSignal updW sameSlots steady checkOn checkW pendingW freshW fresh logged rerun run flushOn store tallest newSignal newComputed newScope newEffect noWord word wholeCells commands commandOf afterCells grown parse treeOf total reserve liveEffects asksOf isA unknown wrongNode goneNode allReadable badFormula tooHigh noRoom wrongDepth fewRows refusals first refusal perform performAny answer command recorded inFormula countFirst inUpdate inCheckOn inCheck inPending countFreshW countFresh countRerun countRun countFlushOn countStore countNewEffect countPerform inPerformAny inAnswer lastWritten next after
+pends p a = let e : meant (before .st) last .st .size ≡ 3 = refl in sym (a .pending 0 (omega arith) refl)
 
 -- ---- the evaluations of a history with all ten commands
 -- signals 5 and 1; a computed that chooses by the second between twice the first and the first; a read of it; a scope; an effect in it that reads it;
