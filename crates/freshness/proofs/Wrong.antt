@@ -3,6 +3,7 @@ use mathlib.Core.Path.{_≡_, refl, sym, ap, _∙_}
 use mathlib.Core.Logic.{inl, inr}
 use mathlib.Core.Bool.{Bool, true, false, not, _&&_}
 use mathlib.Core.List.{List, [], _∷_, _++_}
+use mathlib.Core.Option.{Option, none, some}
 use Prim.Native.Nat.{ℕ, zero, suc, pred}
 use native.Mathlib.Omega.{arith}
 use lib.Dec.{eqb}
@@ -18,18 +19,18 @@ use Rattle.meaning.specs.Links.{provided, remove, each, renew, spent, insert, l
 use Rattle.meaning.specs.Marks.{chain, calm, effects, notify, mark, prop, soil, wakes}
 use Rattle.meaning.specs.Reads.{evalBy, settleW, firstW, updComputed, updSignal, updW, sameSlots, steady, checkOn, checkW, pendingW, freshW, fresh}
 use Rattle.meaning.specs.Engine.{logged, rerun, run, flushOn, store, tallest, newSignal, newComputed, newScope, newEffect}
-use Rattle.meaning.specs.Words.{makeSignal, makeEffect, setTo, readOf as readIt, word, noWord, wholeCells, codes as commands, commandOf, after as afterCells, grown, parse, treeOf}
+use Rattle.meaning.specs.Words.{Command, makeSignal, makeEffect, setTo, batchEnd, readOf as readIt, word, noWord, wholeCells, codes as commands, commandOf, after as afterCells, grown, parse, treeOf}
 use Rattle.meaning.specs.Reserve.{total, reserve}
 use Rattle.meaning.specs.Refusals.{liveEffects, asksOf, isA, unknown, wrongNode, goneNode, allReadable, badFormula, tooHigh, noRoom, wrongDepth, fewRows, table as refusals, first, refusal}
 use Rattle.meaning.specs.Commands.{Answer, perform, performAny, answer, command}
-use Rattle.freshness.specs.Afresh.{afreshN, afreshOf, afresh, paired, readings, moved, recorded, Among}
+use Rattle.freshness.specs.Afresh.{afreshN, afreshOf, afresh, paired, readings, moved, recorded, rested, Among}
 use Rattle.meaning.specs.Evaluations.{inFormula, inUpdate, inCheckOn, inCheck, inPending, countFirst, countFlushOn, countFresh, countFreshW, countNewEffect, countPerform, countRerun, countRun, countStore}
 use Rattle.freshness.specs.Evaluations.{inPerformAny, inAnswer}
 use Rattle.meaning.specs.State.{St, Room, Row, nothing}
 use Rattle.meaning.specs.Setters.{withDepth, withDone, withFree, withLive, withLog, withSto, withSubs, setDone, setLive, setSubs}
 use Rattle.freshness.specs.Nodes.{ownsN, changed, ran}
 use Rattle.freshness.specs.History.{Call, Reply, seen, Engine, meant, replies, written as lastWritten, next, after}
-use Rattle.freshness.specs.Right.{Demand3}
+use Rattle.freshness.specs.Right.{returned, Demand3}
 use Rattle.meaning.proofs.Laws.{false≢true, up-other, up-by}
 use Rattle.freshness.proofs.Forms.{firsts, firsts-paired}
 use Rattle.freshness.proofs.Sound.{not-it, and-first}
@@ -72,6 +73,16 @@ ends = record { rows = 4; words = pos 10 ∷ [] }
 
 abbrev pub case9 : List Call
 case9 = signal0 ∷ signal0 ∷ effect0 ∷ owned1 ∷ begins ∷ set1-9 ∷ set0-4 ∷ []
+
+-- case 30: in a batch that signal is set to 3 and back, with a read after each
+abbrev set3 : Call
+set3 = record { rows = 4; words = pos 5 ∷ pos 0 ∷ pos 3 ∷ [] }
+
+abbrev set5 : Call
+set5 = record { rows = 4; words = pos 5 ∷ pos 0 ∷ pos 5 ∷ [] }
+
+abbrev case30 : List Call
+case30 = signal5 ∷ effect0 ∷ begins ∷ set3 ∷ read0 ∷ set5 ∷ read0 ∷ []
 
 -- a branch that turns: signals 1, 5 and 6; an effect that chooses by the first between the others; a write of 0 to the first
 abbrev signal1 : Call
@@ -138,6 +149,31 @@ leaving s t (e ∷ q) =
 
 abbrev pub early : Engine
 early s c = let a = meant s c in answers (a .code) (a .val) (leaving s (a .st) (s .queue) ++ a .rows) a
+
+-- drops the runs of a flush that find nothing but what was stored before it, as in case 30
+abbrev differing : St → St → List Row → List Row
+differing s t [] = []
+differing s t (r ∷ rs) = elim (moved (s .sto) (t .sto) (r .reads)) [ true ↦ r ∷ differing s t rs | false ↦ differing s t rs ]
+
+abbrev forgives : Engine
+forgives s c = let a = meant s c in answers (a .code) (a .val) (elim (eqb (s .size) (a .st .size)) [ true ↦ differing s (a .st) (a .rows) | false ↦ a .rows ]) a
+
+-- says that its runs read nothing
+abbrev silent : List Row → List Row
+silent [] = []
+silent (r ∷ rs) = record { who = r .who; worth = r .worth; reads = [] } ∷ silent rs
+
+abbrev lies : Engine
+lies s c = let a = meant s c in answers (a .code) (a .val) (silent (a .rows)) a
+
+-- answers a read by the value stored before it
+abbrev stored : St → ℕ → Option Command → Value
+stored s zero none = nothing
+stored s zero (some k) = returned (s .size) (s .sto) k
+stored s (suc r) o = nothing
+
+abbrev stale : Engine
+stale s c = let a = meant s c in answers (a .code) (stored s (a .code) (commandOf (c .words))) (a .rows) a
 
 -- ---- and with another state
 abbrev leaves : St → Answer → Answer
@@ -279,8 +315,8 @@ turned-away v (inl e) = let z = e .0 in absurd (omega arith)
 turned-away v (inr (inl e)) = let z = e .0 in absurd (omega arith)
 turned-away v (inr (inr e)) = e
 
-pub none-is-right : (Demand3 refuses → ⊥) × (Demand3 reads-0 → ⊥) × (Demand3 mute → ⊥) × (Demand3 loud → ⊥) × (Demand3 settles-once → ⊥) × (Demand3 stores-nothing → ⊥) × (Demand3 deep → ⊥) × (Demand3 forgets → ⊥) × (Demand3 twice → ⊥) × (Demand3 turns → ⊥) × (Demand3 early → ⊥) × (Demand3 unstrung → ⊥) × (Demand3 clings → ⊥) × (Demand3 misplaced → ⊥) × (Demand3 roomy → ⊥) × (Demand3 forgets-second → ⊥)
-unfolding Demand3 sum difference minimum maximum less clamp same sameNumber isZero cellOf codes readOf bareOf apply written size names up below empty provided remove each renew spent insert link cut lastLink disposeW unwatchedW unlinkN chain calm effects notify mark prop soil wakes evalBy settleW firstW updComputed updSignal updW sameSlots steady checkOn checkW pendingW freshW fresh logged rerun run flushOn store tallest newSignal newComputed newScope newEffect noWord word wholeCells commands commandOf afterCells grown parse treeOf total reserve liveEffects asksOf isA unknown wrongNode goneNode allReadable badFormula tooHigh noRoom wrongDepth fewRows refusals first refusal perform performAny answer command recorded inFormula countFirst inUpdate inCheckOn inCheck inPending countFreshW countFresh countRerun countRun countFlushOn countStore countNewEffect countPerform inPerformAny inAnswer lastWritten next after afreshN afreshOf paired readings moved ownsN changed ran reads worth
+pub none-is-right : (Demand3 refuses → ⊥) × (Demand3 reads-0 → ⊥) × (Demand3 mute → ⊥) × (Demand3 loud → ⊥) × (Demand3 settles-once → ⊥) × (Demand3 stores-nothing → ⊥) × (Demand3 deep → ⊥) × (Demand3 forgets → ⊥) × (Demand3 twice → ⊥) × (Demand3 turns → ⊥) × (Demand3 early → ⊥) × (Demand3 unstrung → ⊥) × (Demand3 clings → ⊥) × (Demand3 misplaced → ⊥) × (Demand3 roomy → ⊥) × (Demand3 forgets-second → ⊥) × (Demand3 forgives → ⊥) × (Demand3 lies → ⊥) × (Demand3 stale → ⊥)
+unfolding Demand3 sum difference minimum maximum less clamp same sameNumber isZero cellOf codes readOf bareOf apply written size names up below empty provided remove each renew spent insert link cut lastLink disposeW unwatchedW unlinkN chain calm effects notify mark prop soil wakes evalBy settleW firstW updComputed updSignal updW sameSlots steady checkOn checkW pendingW freshW fresh logged rerun run flushOn store tallest newSignal newComputed newScope newEffect noWord word wholeCells commands commandOf afterCells grown parse treeOf total reserve liveEffects asksOf isA unknown wrongNode goneNode allReadable badFormula tooHigh noRoom wrongDepth fewRows refusals first refusal perform performAny answer command recorded inFormula countFirst inUpdate inCheckOn inCheck inPending countFreshW countFresh countRerun countRun countFlushOn countStore countNewEffect countPerform inPerformAny inAnswer lastWritten next after afreshN afreshOf paired readings moved ownsN changed ran reads worth rested
 none-is-right = (
   λ d. let e : _≡_ {A = ℕ} 2 0 = d room refl [] signal5 (omega arith) .0 .code in absurd (omega arith),
   λ d. let e : nothing ≡ value (pos 5) = d room refl (signal5 ∷ []) read0 (omega arith) .0 .accepted (readIt (pos 0)) refl refl .value in false≢true (sym (ap isZero e)),
@@ -299,6 +335,9 @@ none-is-right = (
   λ d. let e : nothing ≡ value (pos 5) = ap (λ (s : St). s .sto 0) (d room refl [] signal5 (omega arith) .1 .ours) in false≢true (sym (ap isZero e)),
   λ d. let e : _≡_ {A = ℕ} 17 16 = ap (λ (s : St). s .room .nodes) (d room refl [] signal5 (omega arith) .1 .ours) in absurd (omega arith),
   λ d. let e : false ≡ true = ap (λ (s : St). s .live 3) (d room refl (signal0 ∷ computed0 ∷ []) twice-0 (omega arith) .1 .ours) in false≢true e,
+  λ d. d room refl case30 ends (omega arith) .0 .accepted batchEnd refl refl .runs refl .1 1 (omega arith, refl, refl) (inl refl),
+  λ d. let e = d room refl (signal5 ∷ []) effect0 (omega arith) .0 .accepted (makeEffect (negsuc 0) (pos 2 ∷ pos 0 ∷ [])) refl refl .rows .1 in let z = ap (λ (x : List (ℕ × Value)). length x) e in absurd (omega arith),
+  λ d. let e : value (pos 5) ≡ nothing = d room refl (signal5 ∷ begins ∷ set0 ∷ []) read0 (omega arith) .0 .accepted (readIt (pos 0)) refl refl .value in false≢true (ap isZero e),
 )
 
 -- ---- two that keep another state are seen by their rows too: after the turn and a write to what is no longer read
