@@ -380,8 +380,10 @@ module _ (g : Given) (st : Static g) where
       unfolding checkOn
       checkOn-inside [] passed s i o e pass dl = record { inside = i; frame = frame-same g (Low g (rank u)) u s; answer = λ z. either (s .fl u .dirty) (λ q. absurd (dl q refl)) (λ q. q) }
       checkOn-inside (l ∷ ls) passed s i o e pass dl =
-          branch (Checked X s u) (s .fl u .dirty) (λ q. record { inside = i; frame = frame-same g (Low g (rank u)) u s; answer = λ z. false≢true (sym z) })
-          (λ q. branch (Checked X s u) (s .fl (s .dep l) .mutable)
+          let x = steady (s .subs (s .dep l)) (fr s (s .dep l) .st) (s .dep l) in
+          let asked : Ans = elim (fr s (s .dep l) .yes) [ true ↦ ans (elim (several (x .subs (s .dep l))) [ true ↦ shallow x (s .dep l) | false ↦ x ]) true | false ↦ checkOn fr u x ls ] in
+          branch (Checked X s u) (s .fl u .dirty) {x = ans s true} {y = elim (s .fl (s .dep l) .mutable) [ true ↦ asked | false ↦ checkOn fr u s ls ]} (λ q. record { inside = i; frame = frame-same g (Low g (rank u)) u s; answer = λ z. false≢true (sym z) })
+          (λ q. branch (Checked X s u) (s .fl (s .dep l) .mutable) {x = asked} {y = checkOn fr u s ls}
           (λ m. asks (reads s i o l lin m) (checkOn-inside ls (passed ++ l ∷ []) (fr s (s .dep l) .st) (f s i o l lin (reads s i o l lin m) .inside) (opened s i o l lin (reads s i o l lin m))
           (deps-same s i o l lin (reads s i o l lin m) ∙ next) (passes s i o l lin (reads s i o l lin m) ls passed e pass) (λ soil z. later s i o l lin (reads s i o l lin m) ls passed e pass q soil z)))
           (λ m. checkOn-inside ls (passed ++ l ∷ []) s i o next (skips (owns s i o l lin m)) (λ soil z. clash soil q)))
