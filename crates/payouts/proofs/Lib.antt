@@ -1,3 +1,4 @@
 pub mod OfCommand
 pub mod NoWeaker
+pub mod Spare
 pub mod Tried
