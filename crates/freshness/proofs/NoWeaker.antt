@@ -1,4 +1,4 @@
--- Demand 3 leaves no freedom: what is asked of a call is kept by one reply, and an engine that keeps it on any history replies as document 01's does, and leaves its state. Assumes nothing.
+-- Demand 3 over lists leaves no freedom below 2^64 evaluations: what is asked of a call is kept by one reply, and an engine that keeps it on any history replies as document 01's does, and leaves its state. Assumes nothing.
 use mathlib.Core.Path.{_≡_, refl, sym, ap, ap₂, _∙_, subst}
 use mathlib.Core.Bool.{true}
 use mathlib.Core.List.{List, [], _∷_, _++_}
