@@ -31,7 +31,7 @@ use mathlib.Core.Option.{Option}
 use Prim.Native.Nat.{ℕ}
 use Rattle.flags.specs.declared.Named.{Named}
 use Rattle.values.specs.declared.Value.{Value}
-use Rattle.formula.specs.Trees.{Tree}
+use Rattle.trees.specs.Trees.{Tree}
 use Rattle.meaning.specs.State.{St, Kind, Row, up}
 """)
 for f, t, column in FIELDS:

@@ -1,4 +1,4 @@
--- Document 01, "Commands": doing, one line a command. Deciding stands in the crate `refusals`.
+-- Document 01, "Commands": doing, one line a command. Deciding stands in the crate `refusing`.
 use mathlib.Core.List.{List}
 use Prim.Native.Nat.{ℕ, zero, suc}
 use lib.IntN.{ℤ, pos, negsuc}

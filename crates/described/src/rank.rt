@@ -1,4 +1,4 @@
-// The rank of a node: a formula reads only nodes of lower rank. Every test of the order goes through here.
+// The rank of a node: a formula reads only nodes of lower rank. Every test of the order in this crate goes through here.
 ghost use mathlib.Core.Path.{_≡_};
 ghost use Rattle.telling.specs.Formulas.{lowerRank};
 

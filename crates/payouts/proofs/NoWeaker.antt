@@ -102,7 +102,7 @@ no-other-tables E d N L W C carry h few =
     }
 
 -- ALIKE TABLES: those that an engine which keeps demand 3 leaves and those that `command` leaves after the same calls are as long, and agree in each word that says something (`Alike`).
--- Of the other words demand 3 asks, after accepted calls, no more than the state has of them (`jots-keeps`); demand 2 fixes them for `command`.
+-- Of the other words demand 3 asks, after accepted calls, no more than the state has of them (`jots-keeps`); the contract of `command` fixes them for it.
 pub alike-tables : (E : TableEngine) → Demand3On E → (N L : List ℕ) (W C : List ℤ) → carryIn N L W C ≡ true → (h : List Lent) → inCalls (empty (roomIn N L C)) (calls h) < 2 ^ 64
     → let t = leftOn E (cleared (emptying N L W C)) h in let u = tablesAfter (cleared (emptying N L W C)) h in
     SameLengths (t .nodes) (t .links) (t .values) (t .cells) (u .nodes) (u .links) (u .values) (u .cells) × Alike (t .nodes) (t .links) (t .values) (t .cells) (u .nodes) (u .links) (u .values) (u .cells)

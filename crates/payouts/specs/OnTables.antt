@@ -1,5 +1,5 @@
 -- Demand 3 of an engine over lent tables: what is asked of each call of a history, in the words of its answer, its log and the tables after it.
--- The engine is an argument, so that another can be held to the same; `command` is `answeredOn`, which its contract cites.
+-- The engine is an argument, so that another can be held to the same; `command` is `answeredOn`, that is `commandIn`, which its contract cites.
 use mathlib.Core.Path.{_≡_}
 use mathlib.Core.Bool.{true}
 use mathlib.Core.List.{List, [], _∷_}

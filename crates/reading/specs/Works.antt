@@ -7,7 +7,7 @@ use Rattle.trees.specs.Trees.{Tree, constant, read, two, choose, apply}
 use Rattle.reading.specs.Tables.{State, Got, got}
 use Rattle.reading.specs.Ring.{Ring, readBy}
 
--- arguments left to right, and of choose only the branch that it takes; as `worth` of the crate `formula`, with a read in the place of the environment
+-- arguments left to right, and of choose only the branch that it takes; as `worth` of the crate `trees`, with a read in the place of the environment
 unfoldable pub workedBy : Ring → ℕ → Tree → State → Got
 workedBy r n (constant k) s = got (value k) s
 workedBy r n (read m) s = readBy r n s m

@@ -1,4 +1,4 @@
--- The test of `engine` passes exactly the tables that represent a well-formed state, and then the refusals are those of that state. Assumes nothing.
+-- The test of `commanding` passes exactly the tables that represent a well-formed state, and then the refusals are those of that state. Assumes nothing.
 use mathlib.Core.Path.{_≡_, sym, ap, ap₂, _∙_, subst}
 use mathlib.Core.Logic.{_↔_}
 use mathlib.Core.Bool.{Bool, true, _&&_}

@@ -37,7 +37,7 @@ pub read-same : (x : State) (C : List ℤ) (s : St) (n : ℕ) → WellFormed s �
 unfolding readOf
 read-same x C s n w free q h r = let t = ringed (given s) (static s w) C .reads x s n (rest-inside s w) h r free q in (t .values .current n, t)
 
--- of tables that the test of `engine` passes
+-- of tables that the test of `commanding` passes
 pub accepted-read : (N L : List ℕ) (W C : List ℤ) (n : ℕ) → wellFormedIn N L W C ≡ true → n < stateIn N L W C .size → readable (stateIn N L W C .kind n) ≡ true
     → (readOf C (state N L W) n .value ≡ settle (stateIn N L W C) n .sto n) × Sees [] (readOf C (state N L W) n .after) C (settle (stateIn N L W C) n)
 accepted-read N L W C n e h r = read-same (state N L W) C (stateIn N L W C) n (accepted-well-formed N L W C e) refl (accepted-represents N L W C e) h r

@@ -11,57 +11,44 @@ use Rattle.libc.proofs.read.Reads as read-reads
 use Rattle.os.proofs.fail.Reads as fail-reads
 use Rattle.stream.proofs.shift.Reads as shift-reads
 
--- src/lib.rt:52:9
 shift-requires : tie.Need-shift-requires
 shift-requires c κs = search needs
 
--- src/lib.rt:54:9
 same-length : tie.Need-same-length
 same-length c = search needs
 
--- src/lib.rt:54:9
 returns : tie.Need-returns
 returns c =
     let long = c .before .before .before .shift .ensures .long in
     record { front = search needs; kept = kept-front _ _ _ long (c .before .before .before .shift .ensures .same); more = omega (arith, long); within = c .before .before .before .shift .ensures .upto; last = λ _. long }
 
--- src/lib.rt:60:16
 sub-part : tie.Need-sub-part
 sub-part c = search needs
 
--- src/lib.rt:60:16
 part-part-start : tie.Need-part-part-start
 part-part-start c = search needs
 
--- src/lib.rt:60:16
 part-part-end : tie.Need-part-part-end
 part-part-end c = search needs
 
--- src/lib.rt:61:9
 read-requires : tie.Need-read-requires
 read-requires c κs = search needs
 
--- src/lib.rt:63:18
 slice-aggregate-fail : tie.Need-slice-aggregate-fail
 slice-aggregate-fail c = search needs
 
--- src/lib.rt:63:9
 fail-requires : tie.Need-fail-requires
 fail-requires c κs = search needs
 
--- src/lib.rt:65:9
 count-requires : tie.Need-count-requires
 count-requires c κs = search needs
 
--- src/lib.rt:68:14
 add-t13 : tie.Need-add-t13
 add-t13 c = search needs
 
--- src/lib.rt:47:1
 same-length-2 : tie.Need-same-length-2
 same-length-2 c = search needs
 
--- src/lib.rt:47:1
 returns-2 : tie.Need-returns-2
 returns-2 c =
     let long = c .before .before .before .before .before .before .before .before .before .before .before .before .before .shift .ensures .long in

@@ -18,41 +18,32 @@ Inv-loop buf₀ at end stop from₀ to₀ buf from to = record { step : from ≡
 abbrev μ-loop : tie.MeasureT-loop
 μ-loop buf₀ at end stop from₀ to₀ buf from to = stop - from
 
--- src/lib.rt:31:9
 least-requires : tie.Need-least-requires Inv-loop μ-loop
 least-requires c κs = search needs
 
--- src/lib.rt:33:9
 returns : tie.Need-returns Inv-loop μ-loop
 returns c =
     let none : _ ≡ [] = unread-none (c .before .before .before .args .buf .now) (c .before .before .before .args .at) (c .before .before .before .args .end) (omega (arith, c .before .least .ensures, c .if1 .taken)) in
     record { long = sym (ap length none); same = sym none; upto = omega arith }
 
--- src/lib.rt:37:5
 loop-holds : tie.Need-loop-holds Inv-loop μ-loop
 loop-holds c = search needs
 
--- src/lib.rt:38:19
 slice-read-buf : tie.Need-slice-read-buf Inv-loop μ-loop
 slice-read-buf c = search needs
 
--- src/lib.rt:38:9
 slice-write-buf : tie.Need-slice-write-buf Inv-loop μ-loop
 slice-write-buf c = search needs
 
--- src/lib.rt:39:9
 add-to : tie.Need-add-to Inv-loop μ-loop
 add-to c = search needs
 
--- src/lib.rt:40:9
 add-from : tie.Need-add-from Inv-loop μ-loop
 add-from c = search needs
 
--- src/lib.rt:37:5
 loop-less : tie.Need-loop-less Inv-loop μ-loop
 loop-less c = search needs
 
--- src/lib.rt:37:5
 loop-again : tie.Need-loop-again Inv-loop μ-loop
 loop-again c =
     let buf = c .before .before .before .before .before .before .args .buf .now in
@@ -61,11 +52,9 @@ loop-again c =
     let stop : c .before .before .before .before .least .result ≡ min (c .before .before .before .before .before .before .args .end) (length buf) = c .before .before .before .before .least .ensures in
     record { step = omega arith; upto = omega arith; same = rw (c .before .before .loop .inv .same, at-from) (moved-next buf at (c .before .before .loop .to) (omega arith)); long = rw length-set (c .before .before .loop .inv .long) }
 
--- src/lib.rt:28:1
 same-length : tie.Need-same-length Inv-loop μ-loop
 same-length c = search needs
 
--- src/lib.rt:28:1
 returns-2 : tie.Need-returns-2 Inv-loop μ-loop
 returns-2 c =
     let buf = c .before .before .before .before .before .args .buf .now in
