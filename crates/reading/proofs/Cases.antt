@@ -1,4 +1,4 @@
--- Small tables, computed: document 01's cases 1 and 3, a choose that switches branches, and a node that reads itself. Assumes nothing.
+-- Small tables, computed: document 01's cases 1 and 3, a choose that switches branches, two arguments in turn, and a node that reads itself. Assumes nothing.
 use mathlib.Core.Path.{_≡_, refl}
 use mathlib.Core.Bool.{false}
 use mathlib.Core.List.{List, [], _∷_}
@@ -104,6 +104,16 @@ abbrev Switches : Type 0
 Switches = (one-way .value ≡ values.value (pos 20)) × (heard (one-way .after) 1 ≡ 2) × (heard (one-way .after) 2 ≡ 0)
     × (other-way .value ≡ values.value (pos 30)) × (heard (other-way .after) 1 ≡ 0) × (heard (other-way .after) 2 ≡ 3)
 
+-- ---- 0 + 1: the first argument is worked out first, and so its link is made first
+abbrev both : List ℤ
+both = pos 3 ∷ pos 0 ∷ pos 2 ∷ pos 0 ∷ pos 2 ∷ pos 1 ∷ []
+
+abbrev in-turn : Got
+in-turn = readOf both (computed (signal (signal empty 0 (pos 9)) 1 (pos 4)) 2 0) 2
+
+abbrev Left-first : Type 0
+Left-first = (in-turn .value ≡ values.value (pos 13)) × (heard (in-turn .after) 0 ≡ 1) × (heard (in-turn .after) 1 ≡ 2)
+
 -- ---- a formula that reads its own node, which no command makes: 0, and no link
 abbrev own : Got
 own = readOf (pos 2 ∷ pos 0 ∷ []) (computed empty 0 0) 0
@@ -111,6 +121,6 @@ own = readOf (pos 2 ∷ pos 0 ∷ []) (computed empty 0 0) 0
 abbrev Reads-itself : Type 0
 Reads-itself = (own .value ≡ values.value (pos 0)) × (heard (own .after) 0 ≡ 0)
 
-pub cases : Case-1 × Case-3 × Switches × Reads-itself
+pub cases : Case-1 × Case-3 × Switches × Left-first × Reads-itself
 unfolding rankOf currentOf pendingOf setCurrent setPending cycleOf raised woken wokenOthers updatedSignal wakenIf refreshedSignal begunFirst begun finishedFirst finished linkedTo readBy twoBy chooseBy cellBy evaluatedBy updatedComputedBy firstBy updatedBy settledBy pendingBy dependencyBy dirtyBy onward depsBy checkedBy renewedBy surelyBy refreshedComputedBy refreshedBy ringN refreshed readOf checked evaluatedFor flags.bit rows.hasField rows.field rows.setField values.clamp values.sum values.less values.sameNumber values.same values.isZero values.valueAt values.setValue cells.bareOf cells.readOf cells.codes cells.cellOf cells.arityOf cells.cellAt cells.settled cells.endOf trees.apply free.isLive free.liveBelow free.live free.taken free.released neighbours.nextDep neighbours.setBeside links.names links.newest links.written links.made links.setBack links.joined links.inserted links.reused links.initOf links.linked unlinks.isOnly unlinks.isMutable unlinks.reset unlinks.retired unlinks.mended unlinks.cutOut unlinks.nextOf unlinks.walked unlinks.purgedBy unlinks.disposedBy unlinks.unwatchedBy unlinks.unlinkedBy unlinks.unlinkedN unlinks.unlinked unlinks.unwatched unlinks.disposed unlinks.purged fields.has fields.lacks fields.hasOnly shallows.raised shallows.dirtied shallows.further shallows.shallowFrom shallows.shallow
-cases = ((refl, refl, refl, refl, refl), (refl, refl, refl, refl), (refl, refl, refl, refl, refl, refl), (refl, refl))
+cases = ((refl, refl, refl, refl, refl), (refl, refl, refl, refl), (refl, refl, refl, refl, refl, refl), (refl, refl, refl), (refl, refl))
