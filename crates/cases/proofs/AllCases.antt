@@ -1,9 +1,9 @@
 -- The twelve cases of document 01, computed over the definitions that `command` cites: one table under one theorem. And the script that wrong engines are tried on. Assumes nothing.
 use mathlib.Core.Path.{◌≡◌, refl}
 use Rattle.meaning.specs.Cases.{table, small, rows}
-use Rattle.cases.specs.Scripts.{emptyTables}
+use Rattle.cases.specs.Scripts.{empty_tables}
 use Rattle.cases.specs.Table.{Holds}
-use Rattle.cases.specs.Wrong.{numbers, tried, triedNumbers}
+use Rattle.cases.specs.Wrong.{numbers, tried, tried_numbers}
 use Rattle.flags.specs.Flags as flags-flags
 use Rattle.queue.specs.Queue as queue-queue
 use Rattle.primitive.specs.Rows as primitive-rows
@@ -63,12 +63,12 @@ use Rattle.cases.specs.Scripts as cases-scripts
 use Rattle.cases.specs.Table as cases-table
 use Rattle.cases.specs.Wrong as cases-wrong
 
-computed : Holds table × (numbers rows (emptyTables small) tried ≡ triedNumbers)
-unfolding flags-flags.bit queue-queue.count queue-queue.entry_at queue-queue.pushed queue-queue.emptied queue-queue.swapped queue-queue.reversed queue-queue.reversedFrom queue-queue.entries queue-queue.queueOf primitive-rows.hasField primitive-rows.field primitive-rows.setField stack-stack.pushedLen values-values.clamp values-values.sum values-values.difference values-values.minimum values-values.maximum values-values.less values-values.sameNumber values-values.same values-values.is_zero values-values.value_at values-values.setValue formula-cells.bareOf formula-cells.read_of formula-cells.codes formula-cells.cell_of formula-cells.arityOf formula-cells.name_of formula-cells.cell_at formula-cells.settled formula-cells.end_of formula-legal.readKind formula-legal.readableIn formula-legal.known_in formula-legal.takesIn formula-legal.in_turn formula-legal.one_at formula-legal.legalIn formula-names.named formula-names.allNamed formula-names.readCells formula-names.tallest formula-names.tallestIn formula-names.heightIn formula-trees.written formula-trees.size formula-trees.names formula-trees.apply links-free.isLive links-free.liveBelow links-free.live links-free.taken links-free.released links-link.names links-link.newest links-link.written links-link.made links-link.setBack links-link.joined links-link.inserted links-link.reused links-link.initOf links-link.linked links-neighbours.nextDep links-neighbours.setBeside links-ring.isOnly links-ring.isMutable links-ring.reset links-ring.retired links-ring.mended links-ring.cutOut links-ring.next_of links-ring.walked links-ring.purgedBy links-ring.disposedBy links-ring.unwatchedBy links-ring.unlinkedBy links-ring.unlinkedN links-ring.disposed links-ring.purged marks-fields.has marks-fields.lacks marks-fields.hasOnly marks-notify.queued marks-notify.ownerOf marks-notify.climbed marks-notify.notified marks-shallow.raised marks-shallow.dirtied marks-shallow.further marks-shallow.shallowFrom marks-shallow.shallow marks-valid.validAt marks-valid.validFrom marks-valid.validLink marks-visits.visitOf marks-visits.visit marks-visits.after marks-visits.stored marks-visits.reached marks-walks.below marks-walks.down marks-walks.back marks-walks.along marks-walks.onward marks-walks.turn marks-walks.walked marks-walks.propagated reads-read.refreshed reads-read.read_of reads-read.checked reads-read.evaluatedFor reads-ring.read_by reads-ring.twoBy reads-ring.chooseBy reads-ring.cellBy reads-ring.evaluatedBy reads-ring.updatedComputedBy reads-ring.firstBy reads-ring.updatedBy reads-ring.settledBy reads-ring.pendingBy reads-ring.dependencyBy reads-ring.dirtyBy reads-ring.onward reads-ring.depsBy reads-ring.checkedBy reads-ring.renewedBy reads-ring.surelyBy reads-ring.refreshedComputedBy reads-ring.refreshedBy reads-ring.ringN reads-steps.woken reads-steps.wokenOthers reads-steps.updatedSignal reads-steps.wakenIf reads-steps.refreshedSignal reads-steps.begunFirst reads-steps.begun reads-steps.finishedFirst reads-steps.finished reads-steps.linkedTo reads-tables.rank_of reads-tables.currentOf reads-tables.pendingOf reads-tables.setCurrent reads-tables.setPending reads-tables.cycleOf reads-tables.raised counts-counts.withinMost counts-counts.wholeRows counts-counts.withinAll counts-counts.carryIn counts-counts.countedIn counts-counts.total counts-counts.reserveOf counts-counts.reserveIn counts-counts.effectOf counts-counts.liveEffectsIn counts-depths.depthUnder described-formulas.lowerRank described-formulas.ownCells described-formulas.allLower described-formulas.readsLower described-formulas.formulaIn described-levels.levelKept described-nodes.standsAlone described-nodes.signalIn described-nodes.computedIn described-nodes.scopeIn described-nodes.effectIn described-nodes.nodeIn described-nodes.nodesIn described-whole.describedIn lists-each.every lists-each.along lists-each.tally lists-once.scan lists-once.stamp lists-sum.sum lists-walk.run lists-walk.runs joined-blank.blank joined-depends.ownerIs joined-depends.mayDepend joined-depends.dependsOn joined-depends.dependsAt joined-depends.only_to joined-depends.ownedOn joined-depends.ownedAt joined-flagged.signalFlags joined-flagged.computedFlags joined-flagged.effectFlags joined-flagged.goneFlags joined-flagged.flagsOn joined-joined.flaggedAt joined-joined.restsAt joined-joined.restIn joined-joined.joinedIn joined-linked.isLive joined-linked.fits joined-linked.spare joined-linked.walks joined-linked.frees joined-linked.linkedIn joined-named.readsFrom joined-named.names_of joined-named.stampNode joined-named.stamped joined-named.linksStamped joined-named.namedFrom joined-named.named_in joined-queued.waitsOn joined-queued.mayWait joined-queued.lives joined-queued.due joined-queued.scanned joined-queued.idle joined-queued.queuedIn meaning-engine.tallest meaning-refusals.asksOf meaning-refusals.unknown meaning-refusals.is_a meaning-refusals.wrongNode meaning-refusals.goneNode meaning-refusals.allReadable meaning-refusals.badFormula meaning-refusals.tooHigh meaning-refusals.noRoom meaning-refusals.wrongDepth meaning-refusals.fewRows meaning-refusals.table meaning-refusals.first meaning-refusals.refusal meaning-words.word meaning-words.no_word meaning-words.wholeCells meaning-words.codes meaning-words.commandOf meaning-words.after meaning-words.grown meaning-words.parse meaning-words.tree_of refusals-asked.asked refusals-asked.cellsFrom refusals-asked.formulaIn refusals-commands.brief refusals-sight.kind_of operations-batches.started operations-batches.flushedAt operations-batches.endedBatch operations-emptying.zeroed operations-emptying.freed operations-emptying.emptying operations-log.numberWord operations-log.rowed operations-log.rowsIn operations-making.setAll operations-making.described operations-making.laid operations-making.valued operations-making.hasRoom operations-making.make operations-making.owned operations-making.newSignal operations-making.newComputed operations-making.newScope operations-making.newEffect operations-runs.begunRun operations-runs.endedRun operations-runs.finishedRun operations-runs.reran operations-runs.mustRun operations-runs.ran operations-runs.ranNext operations-runs.flushedFrom operations-runs.cleared operations-runs.flushed operations-writes.stored operations-writes.announced operations-writes.written operations-writes.added engine-command.refusalIn engine-command.answer engine-command.commandIn engine-perform.numbered engine-perform.performed engine-tables.wellFormedIn cases-scripts.emptyTables cases-scripts.answered cases-scripts.rows_of cases-scripts.answers cases-scripts.afterAll cases-table.between cases-table.Holds cases-wrong.numbers
+computed : Holds table × (numbers rows (empty_tables small) tried ≡ tried_numbers)
+unfolding flags-flags.bit queue-queue.count queue-queue.entry_at queue-queue.pushed queue-queue.emptied queue-queue.swapped queue-queue.reversed queue-queue.reversed_from queue-queue.entries queue-queue.queue_of primitive-rows.has_field primitive-rows.field primitive-rows.set_field stack-stack.pushed_len values-values.clamp values-values.sum values-values.difference values-values.minimum values-values.maximum values-values.less values-values.same_number values-values.same values-values.is_zero values-values.value_at values-values.set_value formula-cells.bare_of formula-cells.read_of formula-cells.codes formula-cells.cell_of formula-cells.arity_of formula-cells.name_of formula-cells.cell_at formula-cells.settled formula-cells.end_of formula-legal.read_kind formula-legal.readable_in formula-legal.known_in formula-legal.takes_in formula-legal.in_turn formula-legal.one_at formula-legal.legal_in formula-names.named formula-names.all_named formula-names.read_cells formula-names.tallest formula-names.tallest_in formula-names.height_in formula-trees.written formula-trees.size formula-trees.names formula-trees.apply links-free.is_live_slot links-free.live_below links-free.live links-free.taken links-free.released links-link.names links-link.newest links-link.written links-link.made links-link.set_back links-link.joined links-link.inserted links-link.reused links-link.init_of links-link.linked links-neighbours.next_dep_of links-neighbours.set_beside links-ring.is_only links-ring.is_mutable links-ring.reset links-ring.retired links-ring.mended links-ring.cut_out links-ring.next_of links-ring.walked links-ring.purged_by links-ring.disposed_by links-ring.unwatched_by links-ring.unlinked_by links-ring.unlinked_n links-ring.disposed links-ring.purged marks-fields.has marks-fields.lacks marks-fields.has_only marks-notify.queued marks-notify.owner_of marks-notify.climbed marks-notify.notified marks-shallow.raised marks-shallow.dirtied marks-shallow.further marks-shallow.shallow_from marks-shallow.shallow marks-valid.valid_at marks-valid.valid_from marks-valid.valid_link marks-visits.visit_of marks-visits.visit marks-visits.after marks-visits.stored marks-visits.reached marks-walks.below marks-walks.down marks-walks.back marks-walks.along marks-walks.onward marks-walks.turn marks-walks.walked marks-walks.propagated reads-read.refreshed reads-read.read_of reads-read.checked reads-read.evaluated_for reads-ring.read_by reads-ring.two_by reads-ring.choose_by reads-ring.cell_by reads-ring.evaluated_by reads-ring.updated_computed_by reads-ring.first_by reads-ring.updated_by reads-ring.settled_by reads-ring.pending_by reads-ring.dependency_by reads-ring.dirty_by reads-ring.onward reads-ring.deps_by reads-ring.checked_by reads-ring.renewed_by reads-ring.surely_by reads-ring.refreshed_computed_by reads-ring.refreshed_by reads-ring.ring_n reads-steps.woken reads-steps.woken_others reads-steps.updated_signal reads-steps.waken_if reads-steps.refreshed_signal reads-steps.begun_first reads-steps.begun reads-steps.finished_first reads-steps.finished reads-steps.linked_to reads-tables.rank_of reads-tables.current_of reads-tables.pending_of reads-tables.set_current reads-tables.set_pending reads-tables.cycle_of reads-tables.raised counts-counts.within_most counts-counts.whole_rows counts-counts.within_all counts-counts.carry_in counts-counts.counted_in counts-counts.total counts-counts.reserve_of counts-counts.reserve_in counts-counts.effect_of counts-counts.live_effects_in counts-depths.depth_under described-formulas.lower_rank described-formulas.own_cells described-formulas.all_lower described-formulas.reads_lower described-formulas.formula_in described-levels.level_kept described-nodes.stands_alone described-nodes.signal_in described-nodes.computed_in described-nodes.scope_in described-nodes.effect_in described-nodes.node_in described-nodes.nodes_in described-whole.described_in lists-each.every lists-each.along lists-each.tally lists-once.scan lists-once.stamp lists-sum.sum lists-walk.run lists-walk.runs joined-blank.blank joined-depends.owner_is joined-depends.may_depend joined-depends.depends_on joined-depends.depends_at joined-depends.only_to joined-depends.owned_on joined-depends.owned_at joined-flagged.signal_flags joined-flagged.computed_flags joined-flagged.effect_flags joined-flagged.gone_flags joined-flagged.flags_on joined-joined.flagged_at joined-joined.rests_at joined-joined.rest_in joined-joined.joined_in joined-linked.is_live_slot joined-linked.fits joined-linked.spare joined-linked.walks joined-linked.frees joined-linked.linked_in joined-named.reads_from joined-named.names_of joined-named.stamp_node joined-named.stamped joined-named.links_stamped joined-named.named_from joined-named.named_in joined-queued.waits_on joined-queued.may_wait joined-queued.lives joined-queued.due joined-queued.scanned joined-queued.idle joined-queued.queued_in meaning-engine.tallest meaning-refusals.asks_of meaning-refusals.unknown meaning-refusals.is_a meaning-refusals.wrong_node meaning-refusals.gone_node meaning-refusals.all_readable meaning-refusals.bad_formula meaning-refusals.too_high meaning-refusals.no_room meaning-refusals.wrong_depth meaning-refusals.few_rows meaning-refusals.table meaning-refusals.first meaning-refusals.refusal meaning-words.word meaning-words.no_word meaning-words.whole_cells meaning-words.codes meaning-words.command_of meaning-words.after meaning-words.grown meaning-words.parse meaning-words.tree_of refusals-asked.asked refusals-asked.cells_from refusals-asked.formula_in refusals-commands.brief refusals-sight.kind_of operations-batches.started operations-batches.flushed_at operations-batches.ended_batch operations-emptying.zeroed operations-emptying.freed operations-emptying.emptying operations-log.number_word operations-log.rowed operations-log.rows_in operations-making.set_all operations-making.described operations-making.laid operations-making.valued operations-making.has_room operations-making.make operations-making.owned operations-making.new_signal operations-making.new_computed operations-making.new_scope operations-making.new_effect operations-runs.begun_run operations-runs.ended_run operations-runs.finished_run operations-runs.reran operations-runs.must_run operations-runs.ran operations-runs.ran_next operations-runs.flushed_from operations-runs.cleared operations-runs.flushed operations-writes.stored operations-writes.announced operations-writes.written operations-writes.added engine-command.refusal_in engine-command.answer engine-command.command_in engine-perform.numbered engine-perform.performed engine-tables.well_formed_in cases-scripts.empty_tables cases-scripts.answered cases-scripts.rows_of cases-scripts.answers cases-scripts.after_all cases-table.between cases-table.Holds cases-wrong.numbers
 computed = ((refl, (refl, (refl, (refl, (refl, (refl, (refl, (refl, (refl, (refl, (refl, (refl, (refl, (refl, refl)))))))))))))), refl)
 
-pub all-cases : Holds table
-all-cases = computed.0
+pub all_cases : Holds table
+all_cases = computed.0
 
-pub tried-numbers : numbers rows (emptyTables small) tried ≡ triedNumbers
-tried-numbers = computed.1
+pub tried_numbers_lem : numbers rows (empty_tables small) tried ≡ tried_numbers
+tried_numbers_lem = computed.1

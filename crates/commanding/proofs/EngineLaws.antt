@@ -10,137 +10,137 @@ use mir.Syntax.{w64}
 use mir.Val.{SFits}
 use Rattle.trees.specs.declared.cells.Number.{Number}
 use Rattle.trees.specs.declared.cells.Number.TheVariants.{Is, None}
-use Rattle.trees.specs.Cells.{naturalOf}
-use Rattle.trees.proofs.CellLaws.{natural-pos, natural-neg}
-use Rattle.telling.specs.Whole.{describedIn}
-use Rattle.resting.specs.Joined.{joinedIn}
+use Rattle.trees.specs.Cells.{natural_of}
+use Rattle.trees.proofs.CellLaws.{natural_pos, natural_neg}
+use Rattle.telling.specs.Whole.{described_in}
+use Rattle.resting.specs.Joined.{joined_in}
 use Rattle.values.specs.declared.Value.{Value}
 use Rattle.values.specs.Values.{value}
 use Rattle.linking.specs.Table.{Tab, tab}
 use Rattle.linking.specs.Ring.{disposed}
 use Rattle.reading.specs.Tables.{State, state, Got}
 use Rattle.reading.specs.Read.{read_of}
-use Rattle.meaning.specs.Words.{commandOf, nodeOf}
+use Rattle.meaning.specs.Words.{command_of, node_of}
 use Rattle.meaning.specs.Refusals.{Sight, table, first, refusal}
 use Rattle.refusing.specs.declared.commands.Command.{Command}
 use Rattle.refusing.specs.declared.commands.Command.TheVariants.{Signal, Computed, Effect, Scope, Set, Add, Read, Dispose, Start, End, Unknown}
-use Rattle.refusing.specs.Sight.{sightIn}
+use Rattle.refusing.specs.Sight.{sight_in}
 use Rattle.refusing.specs.Commands.{brief}
-use Rattle.refusing.specs.Asked.{formulaIn}
-use Rattle.operating.specs.Log.{Ran, ranTo, numberWord}
-use Rattle.operating.specs.Batches.{started, endedBatch}
+use Rattle.refusing.specs.Asked.{formula_in}
+use Rattle.operating.specs.Log.{Ran, ran_to, number_word}
+use Rattle.operating.specs.Batches.{started, ended_batch}
 use Rattle.operating.specs.Writes.{written, added}
-use Rattle.operating.specs.Making.{Made, newSignal, newComputed, newScope, Started, newEffect}
-use Rattle.commanding.specs.Tables.{wellFormedIn}
-use Rattle.commanding.specs.Perform.{Done, done, ownerWord, numbered, performed}
-use Rattle.commanding.specs.Command.{Answered, accepted, refused, refusalOn, refusalIn, answer, commandOn, commandIn}
+use Rattle.operating.specs.Making.{Made, new_signal, new_computed, new_scope, Started, new_effect}
+use Rattle.commanding.specs.Tables.{well_formed_in}
+use Rattle.commanding.specs.Perform.{Done, done, owner_word, numbered, performed}
+use Rattle.commanding.specs.Command.{Answered, accepted, refused, refusal_on, refusal_in, answer, command_on, command_in}
 
 -- ---- numbers of nodes and owners
-module _ (k : ℤ) {r : Number} (found : r ≡ naturalOf k) where
-  pub node-is : (n : ℕ) → r ≡ Is n → n ≡ nodeOf k
-  node-is n e = sym (ap nodeOf (natural-pos k found n e))
+module _ (k : ℤ) {r : Number} (found : r ≡ natural_of k) where
+  pub node_is : (n : ℕ) → r ≡ Is n → n ≡ node_of k
+  node_is n e = sym (ap node_of (natural_pos k found n e))
 
-  pub node-none : r ≡ None → 0 ≡ nodeOf k
-  node-none e = natural-neg k found (λ (z : ℤ). 0 ≡ nodeOf z) e (λ n. refl)
+  pub node_none : r ≡ None → 0 ≡ node_of k
+  node_none e = natural_neg k found (λ (z : ℤ). 0 ≡ node_of z) e (λ n. refl)
 
-  pub owner-is : (n : ℕ) → r ≡ Is n → n + 1 ≡ ownerWord k
-  owner-is n e = add-one n ∙ sym (ap ownerWord (natural-pos k found n e))
+  pub owner_is_word : (n : ℕ) → r ≡ Is n → n + 1 ≡ owner_word k
+  owner_is_word n e = add-one n ∙ sym (ap owner_word (natural_pos k found n e))
 
-  pub owner-none : r ≡ None → 0 ≡ ownerWord k
-  owner-none e = natural-neg k found (λ (z : ℤ). 0 ≡ ownerWord z) e (λ n. refl)
+  pub owner_none : r ≡ None → 0 ≡ owner_word k
+  owner_none e = natural_neg k found (λ (z : ℤ). 0 ≡ owner_word z) e (λ n. refl)
 
-  pub owner-low : SFits w64 k → (n : ℕ) → r ≡ Is n → n < 2 ^ 63
-  owner-low f n e = (subst (SFits w64) (natural-pos k found n e) f).sfits
+  pub owner_low : SFits w64 k → (n : ℕ) → r ≡ Is n → n < 2 ^ 63
+  owner_low f n e = (subst (SFits w64) (natural_pos k found n e) f).sfits
 
 -- ---- the test
-module _ (n l : List ℕ) (v c : List ℤ) {d : Bool} (e : d ≡ describedIn n l v c) where
-  pub described-so : {j : Bool} → d ≡ true → j ≡ joinedIn n l c → j ≡ wellFormedIn n l v c
-  unfolding wellFormedIn
-  described-so h g = let z : describedIn n l v c ≡ true = sym e ∙ h in rw (z, wellFormedIn) g
+module _ (n l : List ℕ) (v c : List ℤ) {d : Bool} (e : d ≡ described_in n l v c) where
+  pub described_so : {j : Bool} → d ≡ true → j ≡ joined_in n l c → j ≡ well_formed_in n l v c
+  unfolding well_formed_in
+  described_so h g = let z : described_in n l v c ≡ true = sym e ∙ h in rw (z, well_formed_in) g
 
-  pub described-not : d ≡ false → false ≡ wellFormedIn n l v c
-  unfolding wellFormedIn
-  described-not h = let z : describedIn n l v c ≡ false = sym e ∙ h in rw (z, wellFormedIn)
+  pub described_not : d ≡ false → false ≡ well_formed_in n l v c
+  unfolding well_formed_in
+  described_not h = let z : described_in n l v c ≡ false = sym e ∙ h in rw (z, well_formed_in)
 
 -- ---- the decision
 module _ (n l : List ℕ) (c g ws : List ℤ) (b : Bool) where
-  pub decided : {r : ℕ} → b ≡ true → r ≡ refusal true (sightIn n l c (length g / 2)) ws → r ≡ refusalOn b n l c g ws
+  pub decided : {r : ℕ} → b ≡ true → r ≡ refusal true (sight_in n l c (length g / 2)) ws → r ≡ refusal_on b n l c g ws
   decided h q = rw h q
 
-  pub not-tables : b ≡ false → 1 ≡ refusalOn b n l c g ws
+  pub not_tables : b ≡ false → 1 ≡ refusal_on b n l c g ws
   unfolding refusal table first
-  not-tables h = rw h
+  not_tables h = rw h
 
-pub refusal-tested : (n l : List ℕ) (v c g ws : List ℤ) (b : Bool) {r : ℕ} → b ≡ wellFormedIn n l v c → r ≡ refusalOn b n l c g ws → r ≡ refusalIn n l v c g ws
-unfolding refusalIn
-refusal-tested n l v c g ws b e q = q ∙ ap (λ (b : Bool). refusalOn b n l c g ws) e
+pub refusal_tested : (n l : List ℕ) (v c g ws : List ℤ) (b : Bool) {r : ℕ} → b ≡ well_formed_in n l v c → r ≡ refusal_on b n l c g ws → r ≡ refusal_in n l v c g ws
+unfolding refusal_in
+refusal_tested n l v c g ws b e q = q ∙ ap (λ (b : Bool). refusal_on b n l c g ws) e
 
 -- ---- the answer
-module _ (n l : List ℕ) (v c g ws : List ℤ) (b : Bool) {r : ℕ} (e : r ≡ refusalOn b n l c g ws) where
-  refused-by : (k : ℕ) → (k ≡ 0 → ⊥) → refused k n l v c g ≡ answer k n l v c g ws
+module _ (n l : List ℕ) (v c g ws : List ℤ) (b : Bool) {r : ℕ} (e : r ≡ refusal_on b n l c g ws) where
+  refused_by : (k : ℕ) → (k ≡ 0 → ⊥) → refused k n l v c g ≡ answer k n l v c g ws
   unfolding answer
-  refused-by zero f = absurd (f refl)
-  refused-by (suc k) f = refl
+  refused_by zero f = absurd (f refl)
+  refused_by (suc k) f = refl
 
-  pub command-refused : (r ≡ 0 → ⊥) → refused r n l v c g ≡ commandOn b n l v c g ws
-  command-refused f = refused-by r f ∙ ap (λ (k : ℕ). answer k n l v c g ws) e
+  pub command_refused : (r ≡ 0 → ⊥) → refused r n l v c g ≡ command_on b n l v c g ws
+  command_refused f = refused_by r f ∙ ap (λ (k : ℕ). answer k n l v c g ws) e
 
-  pub command-done : {d : Done} → r ≡ 0 → d ≡ performed (state n l v) c g (brief (commandOf ws)) (formulaIn ws) → accepted d ≡ commandOn b n l v c g ws
+  pub command_done : {d : Done} → r ≡ 0 → d ≡ performed (state n l v) c g (brief (command_of ws)) (formula_in ws) → accepted d ≡ command_on b n l v c g ws
   unfolding answer
-  command-done h q = ap accepted q ∙ ap (λ (k : ℕ). answer k n l v c g ws) (sym h ∙ e)
+  command_done h q = ap accepted q ∙ ap (λ (k : ℕ). answer k n l v c g ws) (sym h ∙ e)
 
 -- the test decides whether they are well formed
-pub command-tested : (n l : List ℕ) (v c g ws : List ℤ) (b : Bool) {a : Answered} → b ≡ wellFormedIn n l v c → a ≡ commandOn b n l v c g ws → a ≡ commandIn n l v c g ws
-unfolding commandIn refusalIn
-command-tested n l v c g ws b e q = q ∙ ap (λ (b : Bool). commandOn b n l v c g ws) e
+pub command_tested : (n l : List ℕ) (v c g ws : List ℤ) (b : Bool) {a : Answered} → b ≡ well_formed_in n l v c → a ≡ command_on b n l v c g ws → a ≡ command_in n l v c g ws
+unfolding command_in refusal_in
+command_tested n l v c g ws b e q = q ∙ ap (λ (b : Bool). command_on b n l v c g ws) e
 
 -- ---- doing: a law a command
-numbered-by : (l : List ℤ) {m o : Made} {x : ℤ} → m ≡ o → x ≡ numberWord m.number → done x (ranTo m.after l 0) m.cells ≡ numbered l o
+numbered_by : (l : List ℤ) {m o : Made} {x : ℤ} → m ≡ o → x ≡ number_word m.number → done x (ran_to m.after l 0) m.cells ≡ numbered l o
 unfolding numbered
-numbered-by l {m} p q = rw (← p, numbered, q)
+numbered_by l {m} p q = rw (← p, numbered, q)
 
 module _ (s : State) (c l ws : List ℤ) {a : Command} {x : ℤ} where
-  pub signal-by : {k : ℤ} {v : Value} {m : Made} → a ≡ Signal k → v ≡ value k → m ≡ newSignal s c v → x ≡ numberWord m.number → done x (ranTo m.after l 0) m.cells ≡ performed s c l a ws
+  pub signal_by : {k : ℤ} {v : Value} {m : Made} → a ≡ Signal k → v ≡ value k → m ≡ new_signal s c v → x ≡ number_word m.number → done x (ran_to m.after l 0) m.cells ≡ performed s c l a ws
   unfolding performed
-  signal-by h p q r = rw (h, ← p) (numbered-by l q r)
+  signal_by h p q r = rw (h, ← p) (numbered_by l q r)
 
-  pub computed-by : {m : Made} → a ≡ Computed → m ≡ newComputed s c ws → x ≡ numberWord m.number → done x (ranTo m.after l 0) m.cells ≡ performed s c l a ws
+  pub computed_by : {m : Made} → a ≡ Computed → m ≡ new_computed s c ws → x ≡ number_word m.number → done x (ran_to m.after l 0) m.cells ≡ performed s c l a ws
   unfolding performed
-  computed-by h q r = rw h (numbered-by l q r)
+  computed_by h q r = rw h (numbered_by l q r)
 
-  pub effect-by : {o : ℤ} {w : ℕ} {e : Started} → a ≡ Effect o → w ≡ ownerWord o → e ≡ newEffect s c l w ws → x ≡ numberWord e.number → done x e.ran e.cells ≡ performed s c l a ws
+  pub effect_by : {o : ℤ} {w : ℕ} {e : Started} → a ≡ Effect o → w ≡ owner_word o → e ≡ new_effect s c l w ws → x ≡ number_word e.number → done x e.ran e.cells ≡ performed s c l a ws
   unfolding performed
-  effect-by h p q r = rw (h, ← p, ← q, r)
+  effect_by h p q r = rw (h, ← p, ← q, r)
 
-  pub scope-by : {o : ℤ} {w : ℕ} {m : Made} → a ≡ Scope o → w ≡ ownerWord o → m ≡ newScope s c w → x ≡ numberWord m.number → done x (ranTo m.after l 0) m.cells ≡ performed s c l a ws
+  pub scope_by : {o : ℤ} {w : ℕ} {m : Made} → a ≡ Scope o → w ≡ owner_word o → m ≡ new_scope s c w → x ≡ number_word m.number → done x (ran_to m.after l 0) m.cells ≡ performed s c l a ws
   unfolding performed
-  scope-by h p q r = rw (h, ← p) (numbered-by l q r)
+  scope_by h p q r = rw (h, ← p) (numbered_by l q r)
 
-  pub read_by : {k : ℤ} {n : ℕ} {g : Got} → a ≡ Read k → n ≡ nodeOf k → g ≡ read_of c s n → x ≡ g.value.word → done x (ranTo g.after l 0) c ≡ performed s c l a ws
+  pub read_by : {k : ℤ} {n : ℕ} {g : Got} → a ≡ Read k → n ≡ node_of k → g ≡ read_of c s n → x ≡ g.value.word → done x (ran_to g.after l 0) c ≡ performed s c l a ws
   unfolding performed
   read_by h p q r = rw (h, ← p, ← q, r)
 
 module _ (s : State) (c l ws : List ℤ) {a : Command} where
-  pub set-by : {j k : ℤ} {n : ℕ} {v : Value} {r : Ran} → a ≡ Set j k → n ≡ nodeOf j → v ≡ value k → r ≡ written c s l n v → done (pos 0) r c ≡ performed s c l a ws
+  pub set_by : {j k : ℤ} {n : ℕ} {v : Value} {r : Ran} → a ≡ Set j k → n ≡ node_of j → v ≡ value k → r ≡ written c s l n v → done (pos 0) r c ≡ performed s c l a ws
   unfolding performed
-  set-by h p q e = rw (h, ← p, ← q, ← e)
+  set_by h p q e = rw (h, ← p, ← q, ← e)
 
-  pub add-by : {j k : ℤ} {n : ℕ} {v : Value} {r : Ran} → a ≡ Add j k → n ≡ nodeOf j → v ≡ value k → r ≡ added c s l n v → done (pos 0) r c ≡ performed s c l a ws
+  pub add_by : {j k : ℤ} {n : ℕ} {v : Value} {r : Ran} → a ≡ Add j k → n ≡ node_of j → v ≡ value k → r ≡ added c s l n v → done (pos 0) r c ≡ performed s c l a ws
   unfolding performed
-  add-by h p q e = rw (h, ← p, ← q, ← e)
+  add_by h p q e = rw (h, ← p, ← q, ← e)
 
-  pub dispose-by : {j : ℤ} {n : ℕ} {t : Tab} → a ≡ Dispose j → n ≡ nodeOf j → t ≡ disposed (tab s.nodes s.links) n → done (pos 0) (ranTo (state t.nodes t.links s.values) l 0) c ≡ performed s c l a ws
+  pub dispose_by : {j : ℤ} {n : ℕ} {t : Tab} → a ≡ Dispose j → n ≡ node_of j → t ≡ disposed (tab s.nodes s.links) n → done (pos 0) (ran_to (state t.nodes t.links s.values) l 0) c ≡ performed s c l a ws
   unfolding performed
-  dispose-by h p q = rw (h, ← p, ← q)
+  dispose_by h p q = rw (h, ← p, ← q)
 
-  pub start-by : {n : List ℕ} → a ≡ Start → n ≡ started s.nodes → done (pos 0) (ranTo (state n s.links s.values) l 0) c ≡ performed s c l a ws
+  pub start_by : {n : List ℕ} → a ≡ Start → n ≡ started s.nodes → done (pos 0) (ran_to (state n s.links s.values) l 0) c ≡ performed s c l a ws
   unfolding performed
-  start-by h p = rw (h, ← p)
+  start_by h p = rw (h, ← p)
 
-  pub end_by : {r : Ran} → a ≡ End → r ≡ endedBatch c s l → done (pos 0) r c ≡ performed s c l a ws
+  pub end_by : {r : Ran} → a ≡ End → r ≡ ended_batch c s l → done (pos 0) r c ≡ performed s c l a ws
   unfolding performed
   end_by h p = rw (h, ← p)
 
-  pub unknown-by : a ≡ Unknown → done (pos 0) (ranTo s l 0) c ≡ performed s c l a ws
+  pub unknown_by : a ≡ Unknown → done (pos 0) (ran_to s l 0) c ≡ performed s c l a ws
   unfolding performed
-  unknown-by h = rw h
+  unknown_by h = rw h

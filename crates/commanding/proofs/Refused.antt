@@ -3,7 +3,7 @@ use mathlib.Core.Path.{◌≡◌, refl}
 use mathlib.Core.List.{List}
 use Prim.Native.Nat.{ℕ, zero, suc}
 use lib.IntN.{ℤ, pos}
-use Rattle.commanding.specs.Command.{Answered, refusalIn, answer, commandIn}
+use Rattle.commanding.specs.Command.{Answered, refusal_in, answer, command_in}
 
 module _ (n l : List ℕ) (v c g ws : List ℤ) where
   abbrev Unchanged : ℕ → Answered → Type 0
@@ -14,6 +14,6 @@ module _ (n l : List ℕ) (v c g ws : List ℤ) where
   unchanged zero f = absurd (f refl)
   unchanged (suc r) f = refl
 
-  pub refusal-unchanged : (refusalIn n l v c g ws ≡ 0 → ⊥) → Unchanged (refusalIn n l v c g ws) (commandIn n l v c g ws)
-  unfolding commandIn
-  refusal-unchanged = unchanged (refusalIn n l v c g ws)
+  pub refusal_unchanged : (refusal_in n l v c g ws ≡ 0 → ⊥) → Unchanged (refusal_in n l v c g ws) (command_in n l v c g ws)
+  unfolding command_in
+  refusal_unchanged = unchanged (refusal_in n l v c g ws)

@@ -9,20 +9,20 @@ use lib.IntN.{ℤ}
 use lib.ListN.{length}
 use borrow.Author.Tests.{eqb-true, eq-eqb, ne_eqb, leb-true, le-leb}
 use Rattle.primitive.specs.Words.{NODE, LINK}
-use Rattle.counting.specs.Counts.{nodeRoom, slotRoom, cellRoom, mostNodes, mostSlots, mostCellRoom, withinMost, wholeRows, withinAll, carryIn}
+use Rattle.counting.specs.Counts.{node_room, slot_room, cell_room, most_nodes, most_slots, most_cell_room, within_most, whole_rows, within_all, carry_in}
 
 -- tables for c nodes, k slots and m cells
 pub record Sized (nodes links : List ℕ) (values cells : List ℤ) (c k m : ℕ) : Type 0 where
-  pub node-rows : length nodes ≡ suc c * NODE
-  pub value-words : length values ≡ c * 4
-  pub link-rows : length links ≡ suc k * LINK
-  pub cell-words : length cells ≡ m * 2
-  pub some-nodes : 1 ≤ c
-  pub few-nodes : c ≤ mostNodes
-  pub some-slots : 1 ≤ k
-  pub few-slots : k ≤ mostSlots
-  pub some-cells : 1 ≤ m
-  pub few-cells : m ≤ mostCellRoom
+  pub node_rows_lem : length nodes ≡ suc c * NODE
+  pub value_words_lem : length values ≡ c * 4
+  pub link_rows_lem : length links ≡ suc k * LINK
+  pub cells_long : length cells ≡ m * 2
+  pub some_nodes : 1 ≤ c
+  pub few_nodes : c ≤ most_nodes
+  pub some_slots : 1 ≤ k
+  pub few_slots : k ≤ most_slots
+  pub some_cells : 1 ≤ m
+  pub few_cells : m ≤ most_cell_room
 
 both : (a b : Bool) → a && b ≡ true → (a ≡ true) × (b ≡ true)
 both true b e = (refl, e)
@@ -31,63 +31,63 @@ both false b e = absurd (subst T (sym e) tt)
 both_true : {a b : Bool} → a ≡ true → b ≡ true → a && b ≡ true
 both_true e f = ap₂ ◌&&◌ e f
 
-within-is : (most n : ℕ) → withinMost most n ≡ true → (1 ≤ n) × (n ≤ most)
-unfolding withinMost
-within-is most n e =
+within_is : (most n : ℕ) → within_most most n ≡ true → (1 ≤ n) × (n ≤ most)
+unfolding within_most
+within_is most n e =
     let p = both (not (eqb n 0)) (leb n most) e in
     let some : n ≡ 0 → ⊥ = λ z. absurd (subst T (sym p.0 ∙ ap not (eq-eqb n 0 z)) tt) in
     (omega arith, leb-true n most p.1)
 
 -- document 01's numbers: so many pass, and one more does not
-pub most-pass : (withinMost mostNodes 1024 ≡ true) × (withinMost mostSlots 8192 ≡ true) × (withinMost mostCellRoom 8192 ≡ true)
-unfolding withinMost
-most-pass = (refl, refl, refl)
+pub most_pass : (within_most most_nodes 1024 ≡ true) × (within_most most_slots 8192 ≡ true) × (within_most most_cell_room 8192 ≡ true)
+unfolding within_most
+most_pass = (refl, refl, refl)
 
-pub one-more-fails : (withinMost mostNodes 1025 ≡ false) × (withinMost mostSlots 8193 ≡ false) × (withinMost mostCellRoom 8193 ≡ false)
-unfolding withinMost
-one-more-fails = (refl, refl, refl)
+pub one_more_fails : (within_most most_nodes 1025 ≡ false) × (within_most most_slots 8193 ≡ false) × (within_most most_cell_room 8193 ≡ false)
+unfolding within_most
+one_more_fails = (refl, refl, refl)
 
-is_within : (most n : ℕ) → 1 ≤ n → n ≤ most → withinMost most n ≡ true
-unfolding withinMost
+is_within : (most n : ℕ) → 1 ≤ n → n ≤ most → within_most most n ≡ true
+unfolding within_most
 is_within most n h l = let some : n ≡ 0 → ⊥ = λ z. omega arith in both_true (ap not (ne_eqb n 0 some)) (le-leb n most l)
 
 module _ (nodes links : List ℕ) (values cells : List ℤ) where
-  pub carried : carryIn nodes links values cells ≡ true → Sized nodes links values cells (nodeRoom nodes) (slotRoom links) (cellRoom cells)
-  unfolding carryIn wholeRows withinAll
+  pub carried : carry_in nodes links values cells ≡ true → Sized nodes links values cells (node_room nodes) (slot_room links) (cell_room cells)
+  unfolding carry_in whole_rows within_all
   carried e =
-      let p = both (wholeRows nodes links cells) _ e in
+      let p = both (whole_rows nodes links cells) _ e in
       let w = both (eqb (length nodes % NODE) 0) _ p.0 in
       let u = both (eqb (length links % LINK) 0) _ w.1 in
-      let q = both (withinAll nodes links cells) _ p.1 in
-      let r = both (withinMost mostNodes (nodeRoom nodes)) _ q.0 in
-      let s = both (withinMost mostSlots (slotRoom links)) _ r.1 in
-      let n = within-is mostNodes (nodeRoom nodes) r.0 in
-      let l = within-is mostSlots (slotRoom links) s.0 in
-      let m = within-is mostCellRoom (cellRoom cells) s.1 in
+      let q = both (within_all nodes links cells) _ p.1 in
+      let r = both (within_most most_nodes (node_room nodes)) _ q.0 in
+      let s = both (within_most most_slots (slot_room links)) _ r.1 in
+      let n = within_is most_nodes (node_room nodes) r.0 in
+      let l = within_is most_slots (slot_room links) s.0 in
+      let m = within_is most_cell_room (cell_room cells) s.1 in
       record {
-        node-rows = omega (arith, n.0, eqb-true (length nodes % NODE) 0 w.0);
-        value-words = eqb-true (length values) (nodeRoom nodes * 4) q.1;
-        link-rows = omega (arith, l.0, eqb-true (length links % LINK) 0 u.0);
-        cell-words = omega (arith, eqb-true (length cells % 2) 0 u.1);
-        some-nodes = n.0;
-        few-nodes = n.1;
-        some-slots = l.0;
-        few-slots = l.1;
-        some-cells = m.0;
-        few-cells = m.1;
+        node_rows_lem = omega (arith, n.0, eqb-true (length nodes % NODE) 0 w.0);
+        value_words_lem = eqb-true (length values) (node_room nodes * 4) q.1;
+        link_rows_lem = omega (arith, l.0, eqb-true (length links % LINK) 0 u.0);
+        cells_long = omega (arith, eqb-true (length cells % 2) 0 u.1);
+        some_nodes = n.0;
+        few_nodes = n.1;
+        some_slots = l.0;
+        few_slots = l.1;
+        some_cells = m.0;
+        few_cells = m.1;
       }
 
-  pub carries : (c k m : ℕ) → Sized nodes links values cells c k m → carryIn nodes links values cells ≡ true
-  unfolding carryIn wholeRows withinAll
+  pub carries : (c k m : ℕ) → Sized nodes links values cells c k m → carry_in nodes links values cells ≡ true
+  unfolding carry_in whole_rows within_all
   carries c k m s =
-      let n = s.node-rows in
-      let l = s.link-rows in
-      let w = s.cell-words in
-      let a : nodeRoom nodes ≡ c = omega arith in
-      let b : slotRoom links ≡ k = omega arith in
-      let d : cellRoom cells ≡ m = omega arith in
+      let n = s.node_rows_lem in
+      let l = s.link_rows_lem in
+      let w = s.cells_long in
+      let a : node_room nodes ≡ c = omega arith in
+      let b : slot_room links ≡ k = omega arith in
+      let d : cell_room cells ≡ m = omega arith in
       both_true (both_true (eq-eqb (length nodes % NODE) 0 (omega arith)) (both_true (eq-eqb (length links % LINK) 0 (omega arith)) (eq-eqb (length cells % 2) 0 (omega arith))))
       (both_true
-      (both_true (ap (withinMost mostNodes) a ∙ is_within mostNodes c s.some-nodes s.few-nodes)
-      (both_true (ap (withinMost mostSlots) b ∙ is_within mostSlots k s.some-slots s.few-slots) (ap (withinMost mostCellRoom) d ∙ is_within mostCellRoom m s.some-cells s.few-cells)))
-      (eq-eqb (length values) (nodeRoom nodes * 4) (omega (arith, a, s.value-words))))
+      (both_true (ap (within_most most_nodes) a ∙ is_within most_nodes c s.some_nodes s.few_nodes)
+      (both_true (ap (within_most most_slots) b ∙ is_within most_slots k s.some_slots s.few_slots) (ap (within_most most_cell_room) d ∙ is_within most_cell_room m s.some_cells s.few_cells)))
+      (eq-eqb (length values) (node_room nodes * 4) (omega (arith, a, s.value_words_lem))))

@@ -3,9 +3,9 @@ use mathlib.Core.Path.{◌≡◌, refl}
 use mathlib.Core.List.{List}
 use Prim.Native.Nat.{ℕ, ◌+◌, ◌*◌}
 use lib.ListN.{get_or, set, replicate}
-use Rattle.primitive.specs.Rows.{hasField, field}
+use Rattle.primitive.specs.Rows.{has_field, field}
 use Rattle.primitive.specs.Words.{COUNT, KIND, GONE, READS, OWNER, SIGNAL, COMPUTED, EFFECT, SCOPE}
-use Rattle.counting.specs.Counts.{countedIn, total, reserveOf, reserveIn, effectOf, liveEffectsIn}
+use Rattle.counting.specs.Counts.{counted_in, total, reserve_of, reserve_in, effect_of, live_effects_in}
 
 abbrev word : List ℕ → ℕ → ℕ → ℕ → List ℕ
 word t n f v = set t ((n + 1) * 16 + f) v
@@ -17,24 +17,24 @@ four =
     3 OWNER 3
 
 pub record Reserves : Type 0 where
-  pub computed : reserveOf four 1 ≡ 4
-  pub effect : reserveOf four 2 ≡ 2
+  pub computed : reserve_of four 1 ≡ 4
+  pub effect : reserve_of four 2 ≡ 2
   -- a live owned scope counts 1
-  pub scope : reserveOf four 3 ≡ 1
-  pub all : reserveIn four ≡ 7
+  pub scope : reserve_of four 3 ≡ 1
+  pub all : reserve_in four ≡ 7
   -- what is gone counts nothing, and so the reserve comes back
-  pub gone : reserveIn (word four 2 GONE 1) ≡ 5
-  pub live : (liveEffectsIn four ≡ 1) × (liveEffectsIn (word four 2 GONE 1) ≡ 0)
+  pub gone : reserve_in (word four 2 GONE 1) ≡ 5
+  pub live : (live_effects_in four ≡ 1) × (live_effects_in (word four 2 GONE 1) ≡ 0)
 
 -- three nodes are three, also where there are rows for four; and no more are counted than there are rows for
 pub record Counts : Type 0 where
-  pub said : countedIn (set four COUNT 3) ≡ 3
-  pub most : countedIn (set four COUNT 9) ≡ 4
+  pub said : counted_in (set four COUNT 3) ≡ 3
+  pub most : counted_in (set four COUNT 9) ≡ 4
 
 pub reserves : Reserves
-unfolding countedIn total reserveOf reserveIn effectOf liveEffectsIn hasField field
+unfolding counted_in total reserve_of reserve_in effect_of live_effects_in has_field field
 reserves = record { computed = refl; effect = refl; scope = refl; all = refl; gone = refl; live = (refl, refl) }
 
 pub counts : Counts
-unfolding countedIn
+unfolding counted_in
 counts = record { said = refl; most = refl }

@@ -7,33 +7,33 @@ use native.Mathlib.Numerals.{add-one}
 use native.Mathlib.Omega.{arith}
 use lib.Dec.{eqb}
 use Rattle.primitive.specs.Words.{KIND, GONE, EFFECT, node}
-use Rattle.counting.specs.Counts.{total, top, row, ownedLink, effectOf}
+use Rattle.counting.specs.Counts.{total, top, row, owned_link, effect_of}
 
 -- an owner counts 1
-pub owned-some : (w : ℕ) → (w ≡ 0 → ⊥) → 1 ≡ ownedLink w
-owned-some zero h = absurd (h refl)
-owned-some (suc o) h = refl
+pub owned_some : (w : ℕ) → (w ≡ 0 → ⊥) → 1 ≡ owned_link w
+owned_some zero h = absurd (h refl)
+owned_some (suc o) h = refl
 
-pub owned-most : (w : ℕ) → ownedLink w ≤ 1
-owned-most zero = omega arith
-owned-most (suc o) = omega arith
+pub owned_most : (w : ℕ) → owned_link w ≤ 1
+owned_most zero = omega arith
+owned_most (suc o) = omega arith
 
-pub total-none : (f : ℕ → ℕ) → total f 0 ≡ 0
+pub total_none : (f : ℕ → ℕ) → total f 0 ≡ 0
 unfolding total
-total-none f = refl
+total_none f = refl
 
-pub total-more : (f : ℕ → ℕ) (n : ℕ) → total f (n + 1) ≡ total f n + f n
+pub total_more : (f : ℕ → ℕ) (n : ℕ) → total f (n + 1) ≡ total f n + f n
 unfolding total
-total-more f n = rw (add-one n)
+total_more f n = rw (add-one n)
 
 -- the sum of the stopped parts, stopped, is the whole sum, stopped
 pub stopped_more : (f : ℕ → ℕ) (n : ℕ) {s p r : ℕ} → s ≡ min top (total f n) → p ≡ min top (f n) → r ≡ min top (s + p) → r ≡ min top (total f (n + 1))
-stopped_more f n a b c = omega (arith, total-more f n)
+stopped_more f n a b c = omega (arith, total_more f n)
 
 -- an effect counts at most 1, so no sum of them exceeds the number of nodes
-pub effect-most : (nodes : List ℕ) (n : ℕ) → effectOf nodes n ≤ 1
-unfolding effectOf
-effect-most nodes n = go (eqb (node nodes n KIND) EFFECT) (eqb (node nodes n GONE) 0)
+pub effect_most : (nodes : List ℕ) (n : ℕ) → effect_of nodes n ≤ 1
+unfolding effect_of
+effect_most nodes n = go (eqb (node nodes n KIND) EFFECT) (eqb (node nodes n GONE) 0)
   where
     go : (a b : Bool) → row a (row b 1 0) 0 ≤ 1
     go true true = omega arith

@@ -1,6 +1,6 @@
 // Document 01, "Reserve", and the live effects: sums over the nodes. They stop at the greatest u64, far above every capacity.
 ghost use Rattle.std.specs.Prelude.{◌≡◌, ◌+◌, ◌*◌, min};
-ghost use Rattle.counting.specs.Counts.{top, ownedLink, reserveOf, reserveIn, effectOf, liveEffectsIn};
+ghost use Rattle.counting.specs.Counts.{top, owned_link, reserve_of, reserve_in, effect_of, live_effects_in};
 
 use crate::room::counted;
 use primitive::rows::{COMPUTED, EFFECT, GONE, KIND, NODE, OWNER, READS, SIGNAL};
@@ -16,14 +16,14 @@ pub fn plus(a: u64, b: u64) -> u64
 
 // 1 for a node that has an owner: the link from it.
 fn owned(owner: u64) -> u64
-    ensures { result ≡ ownedLink owner }
+    ensures { result ≡ owned_link owner }
 {
     if owner == 0 { 0 } else { 1 }
 }
 
 // Twice the read cells: on a rerun old links stay until the purge. A gone effect or scope counts nothing.
 pub fn reserve_of(nodes: &[u64], n: u64) -> u64
-    ensures { result ≡ min top (reserveOf nodes.now n) }
+    ensures { result ≡ min top (reserve_of nodes.now n) }
 {
     let kind = words::get(nodes, NODE, n, KIND);
     if kind == SIGNAL {
@@ -44,7 +44,7 @@ pub fn reserve_of(nodes: &[u64], n: u64) -> u64
 }
 
 pub fn reserve(nodes: &[u64]) -> u64
-    ensures { result ≡ reserveIn nodes.now }
+    ensures { result ≡ reserve_in nodes.now }
 {
     let end = counted(nodes);
     let mut n: u64 = 0;
@@ -58,7 +58,7 @@ pub fn reserve(nodes: &[u64]) -> u64
 
 // 1 for a live effect.
 fn effect_of(nodes: &[u64], n: u64) -> u64
-    ensures { result ≡ effectOf nodes.now n }
+    ensures { result ≡ effect_of nodes.now n }
 {
     let gone = words::get(nodes, NODE, n, GONE);
     if words::get(nodes, NODE, n, KIND) != EFFECT {
@@ -68,7 +68,7 @@ fn effect_of(nodes: &[u64], n: u64) -> u64
 }
 
 pub fn live_effects(nodes: &[u64]) -> u64
-    ensures { result ≡ liveEffectsIn nodes.now }
+    ensures { result ≡ live_effects_in nodes.now }
 {
     let end = counted(nodes);
     let mut n: u64 = 0;

@@ -1,6 +1,6 @@
 // The capacities that the lengths of lent tables carry.
 ghost use Rattle.std.specs.Prelude.{◌≡◌};
-ghost use Rattle.counting.specs.Counts.{nodeRoom, slotRoom, cellRoom, countedIn, withinMost, carryIn};
+ghost use Rattle.counting.specs.Counts.{node_room, slot_room, cell_room, counted_in, within_most, carry_in};
 
 use primitive::rows::COUNT;
 use primitive::words;
@@ -14,7 +14,7 @@ pub const MOST_CELL_ROOM: u64 = 8192;
 
 // Rows after the header; none where there is no header row.
 pub fn node_room(nodes: &[u64]) -> u64
-    ensures { result ≡ nodeRoom nodes.now }
+    ensures { result ≡ node_room nodes.now }
 {
     let rows = (nodes.len() / 16) as u64;
     if rows == 0 {
@@ -24,7 +24,7 @@ pub fn node_room(nodes: &[u64]) -> u64
 }
 
 pub fn slot_room(links: &[u64]) -> u64
-    ensures { result ≡ slotRoom links.now }
+    ensures { result ≡ slot_room links.now }
 {
     let rows = (links.len() / 8) as u64;
     if rows == 0 {
@@ -34,14 +34,14 @@ pub fn slot_room(links: &[u64]) -> u64
 }
 
 pub fn cell_room(cells: &[i64]) -> u64
-    ensures { result ≡ cellRoom cells.now }
+    ensures { result ≡ cell_room cells.now }
 {
     (cells.len() / 2) as u64
 }
 
 // How many nodes a count goes over: those that the tables say there are, but no more than there are rows for.
 pub fn counted(nodes: &[u64]) -> u64
-    ensures { result ≡ countedIn nodes.now }
+    ensures { result ≡ counted_in nodes.now }
 {
     let room = node_room(nodes);
     let n = words::at(nodes, COUNT);
@@ -50,7 +50,7 @@ pub fn counted(nodes: &[u64]) -> u64
 
 // Whether n is a capacity: 1 to `most`.
 fn within(most: u64, n: u64) -> bool
-    ensures { result ≡ withinMost most n }
+    ensures { result ≡ within_most most n }
 {
     if n == 0 {
         return false;
@@ -60,7 +60,7 @@ fn within(most: u64, n: u64) -> bool
 
 // Whether the four lengths carry capacities, with no words over and values for as many nodes as there are rows for.
 pub fn carry(nodes: &[u64], links: &[u64], values: &[i64], cells: &[i64]) -> bool
-    ensures { result ≡ carryIn nodes.now links.now values.now cells.now }
+    ensures { result ≡ carry_in nodes.now links.now values.now cells.now }
 {
     if nodes.len() % 16 != 0 {
         return false;

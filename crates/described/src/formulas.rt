@@ -1,6 +1,6 @@
 // The formula of a node: where its cells lie, and what they may name.
 ghost use Rattle.std.specs.Prelude.{◌≡◌};
-ghost use Rattle.telling.specs.Formulas.{ownCells, cellLower, readsLower, formulaIn};
+ghost use Rattle.telling.specs.Formulas.{own_cells, cell_lower, reads_lower, formula_in};
 
 use crate::rank;
 use formula::cells::{cell_at, name};
@@ -12,7 +12,7 @@ use trees::cells::{Cell, Number};
 
 // The cells of node n's formula; none where they do not lie inside the cells that are lent.
 pub fn own_cells<'a>(nodes: &[u64], cells: &'a [i64], n: u64) -> &'a [i64]
-    ensures { result.now ≡ ownCells nodes.now cells.now n }
+    ensures { result.now ≡ own_cells nodes.now cells.now n }
 {
     let start = words::get(nodes, NODE, n, START);
     let count = words::get(nodes, NODE, n, CELLS);
@@ -30,7 +30,7 @@ pub fn own_cells<'a>(nodes: &[u64], cells: &'a [i64], n: u64) -> &'a [i64]
 
 // Whether the cell names nothing, or a node of lower rank than n.
 fn cell_lower(c: Cell, n: u64) -> bool
-    ensures { result ≡ cellLower n c }
+    ensures { result ≡ cell_lower n c }
 {
     let Number::Is(m) = name(c) else {
         return true;
@@ -40,7 +40,7 @@ fn cell_lower(c: Cell, n: u64) -> bool
 
 // Whether every read cell names a node of lower rank than n.
 fn reads_lower(cells: &[i64], n: u64) -> bool
-    ensures { result ≡ readsLower cells.now n }
+    ensures { result ≡ reads_lower cells.now n }
 {
     let end = (cells.len() / 2) as u64;
     let mut i: u64 = 0;
@@ -55,7 +55,7 @@ fn reads_lower(cells: &[i64], n: u64) -> bool
 
 // Whether the cells are a formula that node n may have, with the number of read cells that its row says.
 pub fn formula(nodes: &[u64], cells: &[i64], n: u64) -> bool
-    ensures { result ≡ formulaIn nodes.now cells.now n }
+    ensures { result ≡ formula_in nodes.now cells.now n }
 {
     if !legal(nodes, cells) {
         return false;

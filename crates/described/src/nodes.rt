@@ -1,6 +1,6 @@
 // What a node's row must say, by its kind.
 ghost use Rattle.std.specs.Prelude.{◌≡◌};
-ghost use Rattle.telling.specs.Nodes.{standsAlone, signalIn, computedIn, scopeIn, effectIn, nodeIn, nodesIn};
+ghost use Rattle.telling.specs.Nodes.{stands_alone, signal_in, computed_in, scope_in, effect_in, node_in, nodes_in};
 
 use crate::formulas::{formula, own_cells};
 use crate::levels::level_kept;
@@ -11,7 +11,7 @@ use primitive::words;
 
 // Signals and computeds are never gone and have no owner.
 fn stands_alone(nodes: &[u64], n: u64) -> bool
-    ensures { result ≡ standsAlone nodes.now n }
+    ensures { result ≡ stands_alone nodes.now n }
 {
     if words::get(nodes, NODE, n, GONE) != 0 {
         return false;
@@ -20,7 +20,7 @@ fn stands_alone(nodes: &[u64], n: u64) -> bool
 }
 
 fn signal(nodes: &[u64], n: u64) -> bool
-    ensures { result ≡ signalIn nodes.now n }
+    ensures { result ≡ signal_in nodes.now n }
 {
     if !stands_alone(nodes, n) {
         return false;
@@ -29,7 +29,7 @@ fn signal(nodes: &[u64], n: u64) -> bool
 }
 
 fn computed(nodes: &[u64], cells: &[i64], n: u64) -> bool
-    ensures { result ≡ computedIn nodes.now cells.now n }
+    ensures { result ≡ computed_in nodes.now cells.now n }
 {
     if !stands_alone(nodes, n) {
         return false;
@@ -43,7 +43,7 @@ fn computed(nodes: &[u64], cells: &[i64], n: u64) -> bool
 
 // A scope has no formula. Its depth is tested when it is gone, too.
 fn scope(nodes: &[u64], n: u64) -> bool
-    ensures { result ≡ scopeIn nodes.now n }
+    ensures { result ≡ scope_in nodes.now n }
 {
     if words::get(nodes, NODE, n, GONE) > 1 {
         return false;
@@ -56,7 +56,7 @@ fn scope(nodes: &[u64], n: u64) -> bool
 }
 
 fn effect(nodes: &[u64], cells: &[i64], n: u64) -> bool
-    ensures { result ≡ effectIn nodes.now cells.now n }
+    ensures { result ≡ effect_in nodes.now cells.now n }
 {
     if !scope(nodes, n) {
         return false;
@@ -65,7 +65,7 @@ fn effect(nodes: &[u64], cells: &[i64], n: u64) -> bool
 }
 
 fn node(nodes: &[u64], cells: &[i64], n: u64) -> bool
-    ensures { result ≡ nodeIn nodes.now cells.now n }
+    ensures { result ≡ node_in nodes.now cells.now n }
 {
     let kind = words::get(nodes, NODE, n, KIND);
     if kind == SIGNAL {
@@ -85,7 +85,7 @@ fn node(nodes: &[u64], cells: &[i64], n: u64) -> bool
 
 // The nodes below `count`.
 pub fn every_node(nodes: &[u64], cells: &[i64], count: u64) -> bool
-    ensures { result ≡ nodesIn nodes.now cells.now count }
+    ensures { result ≡ nodes_in nodes.now cells.now count }
 {
     let mut n = count;
     while 0 < n {

@@ -1,10 +1,10 @@
 // The rank of a node: a formula reads only nodes of lower rank. Every test of the order in this crate goes through here.
 ghost use Rattle.std.specs.Prelude.{◌≡◌};
-ghost use Rattle.telling.specs.Formulas.{lowerRank};
+ghost use Rattle.telling.specs.Formulas.{lower_rank};
 
 // Whether node m is of lower rank than node n.
 pub fn lower(m: u64, n: u64) -> bool
-    ensures { result ≡ lowerRank m n }
+    ensures { result ≡ lower_rank m n }
 {
     m < n
 }

@@ -1,6 +1,6 @@
 // The whole of what the tables say of nodes.
 ghost use Rattle.std.specs.Prelude.{◌≡◌};
-ghost use Rattle.telling.specs.Whole.{describedIn};
+ghost use Rattle.telling.specs.Whole.{described_in};
 
 use crate::nodes::every_node;
 use counts::reserve::reserve;
@@ -10,7 +10,7 @@ use primitive::words;
 
 // The nodes are lent the cells in use only, so that no other cell decides.
 pub fn described(nodes: &[u64], links: &[u64], values: &[i64], cells: &[i64]) -> bool
-    ensures { result ≡ describedIn nodes.now links.now values.now cells.now }
+    ensures { result ≡ described_in nodes.now links.now values.now cells.now }
 {
     if !carry(nodes, links, values, cells) {
         return false;

@@ -1,6 +1,6 @@
 // One command on lent tables: words in; refusal number, value and number of runs out.
 ghost use Rattle.std.specs.Prelude.{◌≡◌};
-ghost use Rattle.commanding.specs.Command.{answered, refusalOn, refusalIn, commandOn, commandIn};
+ghost use Rattle.commanding.specs.Command.{answered, refusal_on, refusal_in, command_on, command_in};
 
 use crate::perform::perform;
 use crate::tables::well_formed;
@@ -25,7 +25,7 @@ pub fn refusal_on(
     words: &[i64],
     formed: bool,
 ) -> u64
-    ensures { result ≡ refusalOn formed nodes.now links.now cells.now log.now words.now }
+    ensures { result ≡ refusal_on formed nodes.now links.now cells.now log.now words.now }
 {
     if formed {
         return table::refusal(nodes, links, cells, (log.len() / 2) as u64, words);
@@ -42,7 +42,7 @@ pub fn refusal(
     log: &[i64],
     words: &[i64],
 ) -> u64
-    ensures { result ≡ refusalIn nodes.now links.now values.now cells.now log.now words.now }
+    ensures { result ≡ refusal_in nodes.now links.now values.now cells.now log.now words.now }
 {
     let formed = well_formed(nodes, links, values, cells);
     refusal_on(nodes, links, cells, log, words, formed)
@@ -59,7 +59,7 @@ pub fn command_on(
     words: &[i64],
     formed: bool,
 ) -> Answer
-    ensures { answered result.code result.value result.runs nodes.new links.new values.new cells.new log.new ≡ commandOn formed nodes.old links.old values.old cells.old log.old words.now }
+    ensures { answered result.code result.value result.runs nodes.new links.new values.new cells.new log.new ≡ command_on formed nodes.old links.old values.old cells.old log.old words.now }
 {
     let code = refusal_on(nodes, links, cells, log, words, formed);
     if code != 0 {
@@ -95,7 +95,7 @@ pub fn command(
     log: &mut [i64],
     words: &[i64],
 ) -> Answer
-    ensures { answered result.code result.value result.runs nodes.new links.new values.new cells.new log.new ≡ commandIn nodes.old links.old values.old cells.old log.old words.now }
+    ensures { answered result.code result.value result.runs nodes.new links.new values.new cells.new log.new ≡ command_in nodes.old links.old values.old cells.old log.old words.now }
 {
     let formed = well_formed(nodes, links, values, cells);
     command_on(nodes, links, values, cells, log, words, formed)

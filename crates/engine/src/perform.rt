@@ -1,9 +1,9 @@
 // Doing: what an accepted command does, once it is decided.
 ghost use Rattle.std.specs.Prelude.{◌≡◌};
 ghost use Rattle.reading.specs.Tables.{state};
-ghost use Rattle.operating.specs.Log.{ranTo};
-ghost use Rattle.meaning.specs.Words.{nodeOf};
-ghost use Rattle.commanding.specs.Perform.{ownerWord, done, performed};
+ghost use Rattle.operating.specs.Log.{ran_to};
+ghost use Rattle.meaning.specs.Words.{node_of};
+ghost use Rattle.commanding.specs.Perform.{owner_word, done, performed};
 
 use formula::cells::natural;
 use links::unlink::dispose;
@@ -25,7 +25,7 @@ pub struct Done {
 
 // The node of a number that is known to be one.
 fn node_of(k: i64) -> u64
-    ensures { result ≡ nodeOf k }
+    ensures { result ≡ node_of k }
 {
     let Number::Is(n) = natural(k) else {
         return 0;
@@ -35,7 +35,7 @@ fn node_of(k: i64) -> u64
 
 // The owner as a word of the tables: 0 for none, else its number + 1.
 fn owner_word(k: i64) -> u64
-    ensures { result ≡ ownerWord k }
+    ensures { result ≡ owner_word k }
 {
     let Number::Is(n) = natural(k) else {
         return 0;
@@ -53,7 +53,7 @@ pub fn perform(
     command: Command,
     formula: &[i64],
 ) -> Done
-    ensures { done result.value (ranTo (state nodes.new links.new values.new) log.new result.runs) cells.new ≡ performed (state nodes.old links.old values.old) cells.old log.old command formula.now }
+    ensures { done result.value (ran_to (state nodes.new links.new values.new) log.new result.runs) cells.new ≡ performed (state nodes.old links.old values.old) cells.old log.old command formula.now }
 {
     match command {
         Command::Signal(k) => {

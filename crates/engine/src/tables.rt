@@ -1,12 +1,12 @@
 // Whether lent tables are well formed: what they say of nodes, and how these are linked, flagged and queued.
 ghost use Rattle.std.specs.Prelude.{◌≡◌};
-ghost use Rattle.commanding.specs.Tables.{wellFormedIn};
+ghost use Rattle.commanding.specs.Tables.{well_formed_in};
 
 use described::whole::described;
 use joined::joined;
 
 pub fn well_formed(nodes: &[u64], links: &[u64], values: &[i64], cells: &[i64]) -> bool
-    ensures { result ≡ wellFormedIn nodes.now links.now values.now cells.now }
+    ensures { result ≡ well_formed_in nodes.now links.now values.now cells.now }
 {
     if described(nodes, links, values, cells) {
         return joined(nodes, links, cells);

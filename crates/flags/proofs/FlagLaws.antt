@@ -27,31 +27,31 @@ digits P p q r s zero (suc (suc y)) h k = absurd (omega arith)
 digits P p q r s (suc zero) (suc (suc y)) h k = absurd (omega arith)
 
 module _ (op : ℕ → ℕ → ℕ) (o : Bool → Bool → Bool) where
-  bit-op :
+  bit_op :
       ((a b k : ℕ) → op a b / 2 ^ k ≡ op (a / 2 ^ k) (b / 2 ^ k))
       → ((a b k : ℕ) → op a b % 2 ^ k ≡ op (a % 2 ^ k) (b % 2 ^ k))
       → ((x y : ℕ) → x < 2 → y < 2 → eqb (op x y) 1 ≡ o (eqb x 1) (eqb y 1))
       → (k a b : ℕ) → bit k (op a b) ≡ o (bit k a) (bit k b)
   unfolding bit
-  bit-op high low each k a b =
+  bit_op high low each k a b =
       ap (λ (x : ℕ). eqb (x % 2) 1) (high a b k)
       ∙ ap (λ (x : ℕ). eqb x 1) (low (a / 2 ^ k) (b / 2 ^ k) 1)
       ∙ each (a / 2 ^ k % 2) (b / 2 ^ k % 2) (digit (a / 2 ^ k)) (digit (b / 2 ^ k))
 
-pub bit-or : (k a b : ℕ) → bit k (bit_or a b) ≡ (bit k a || bit k b)
-bit-or = bit-op bit_or ◌||◌ or_shr or_mod (digits (λ (x y : ℕ). eqb (bit_or x y) 1 ≡ (eqb x 1 || eqb y 1)) refl refl refl refl)
+pub bit-bit_or : (k a b : ℕ) → bit k (bit_or a b) ≡ (bit k a || bit k b)
+bit-bit_or = bit_op bit_or ◌||◌ or_shr or_mod (digits (λ (x y : ℕ). eqb (bit_or x y) 1 ≡ (eqb x 1 || eqb y 1)) refl refl refl refl)
 
-pub bit-and : (k a b : ℕ) → bit k (bit_and a b) ≡ (bit k a && bit k b)
-bit-and = bit-op bit_and ◌&&◌ and_shr and_mod (digits (λ (x y : ℕ). eqb (bit_and x y) 1 ≡ (eqb x 1 && eqb y 1)) refl refl refl refl)
+pub bit-bit_and : (k a b : ℕ) → bit k (bit_and a b) ≡ (bit k a && bit k b)
+bit-bit_and = bit_op bit_and ◌&&◌ and_shr and_mod (digits (λ (x y : ℕ). eqb (bit_and x y) 1 ≡ (eqb x 1 && eqb y 1)) refl refl refl refl)
 
 -- ---- a law of every byte by one computed test
 abbrev pub every : (ℕ → Bool) → ℕ → Bool
 every p zero = true
 every p (suc n) = elim (p n) [ true ↦ every p n | false ↦ false ]
 
-pub every-at : (p : ℕ → Bool) (n : ℕ) → every p n ≡ true → (k : ℕ) → k < n → p k ≡ true
-every-at p zero t k h = absurd (not-suc-le-zero h)
-every-at p (suc n) t k h = go (p n) refl t (λ u. every-at p n u k) (ℕ_discrete k n)
+pub every_at : (p : ℕ → Bool) (n : ℕ) → every p n ≡ true → (k : ℕ) → k < n → p k ≡ true
+every_at p zero t k h = absurd (not-suc-le-zero h)
+every_at p (suc n) t k h = go (p n) refl t (λ u. every_at p n u k) (ℕ_discrete k n)
   where
     go : (b : Bool) → p n ≡ b → elim b [ true ↦ every p n | false ↦ false ] ≡ true → (every p n ≡ true → k < n → p k ≡ true)
         → Dec (k ≡ n) → p k ≡ true
@@ -64,12 +64,12 @@ opposite : Bool → Bool → Bool
 opposite true b = not b
 opposite false b = b
 
-opposite-not : (a b : Bool) → opposite a b ≡ true → b ≡ not a
+opposite_not : (a b : Bool) → opposite a b ≡ true → b ≡ not a
 unfolding opposite
-opposite-not true true e = sym e
-opposite-not true false e = refl
-opposite-not false true e = refl
-opposite-not false false e = e
+opposite_not true true e = sym e
+opposite_not true false e = refl
+opposite_not false true e = refl
+opposite_not false false e = e
 
 others : every (λ (k : ℕ). every (λ (b : ℕ). opposite (bit k b) (bit k (255 - b))) 256) 8 ≡ true
 unfolding bit opposite
@@ -77,12 +77,12 @@ others = refl
 
 pub bit_not : (k b : ℕ) → k < 8 → b < 256 → bit k (255 - b) ≡ not (bit k b)
 bit_not k b h l =
-    opposite-not (bit k b) (bit k (255 - b))
-    (every-at (λ (b : ℕ). opposite (bit k b) (bit k (255 - b))) 256
-    (every-at (λ (k : ℕ). every (λ (b : ℕ). opposite (bit k b) (bit k (255 - b))) 256) 8 others k h) b l)
+    opposite_not (bit k b) (bit k (255 - b))
+    (every_at (λ (b : ℕ). opposite (bit k b) (bit k (255 - b))) 256
+    (every_at (λ (k : ℕ). every (λ (b : ℕ). opposite (bit k b) (bit k (255 - b))) 256) 8 others k h) b l)
 
-pub bit-clear : (k a b : ℕ) → k < 8 → b < 256 → bit k (bit_and a (255 - b)) ≡ (bit k a && not (bit k b))
-bit-clear k a b h l = bit-and k a (255 - b) ∙ ap (λ (x : Bool). bit k a && x) (bit_not k b h l)
+pub bit_clear : (k a b : ℕ) → k < 8 → b < 256 → bit k (bit_and a (255 - b)) ≡ (bit k a && not (bit k b))
+bit_clear k a b h l = bit-bit_and k a (255 - b) ∙ ap (λ (x : Bool). bit k a && x) (bit_not k b h l)
 
 -- ---- a mask of one bit
 tested : (x p : ℕ) → x < 2 → 0 < p → not (eqb (x * p) 0) ≡ eqb x 1
@@ -90,9 +90,9 @@ tested zero p h k = rw (zero-mul p)
 tested (suc zero) p h k = let d : 1 * p ≡ 0 → ⊥ = λ e. omega arith in rw (ne_eqb (1 * p) 0 d)
 tested (suc (suc x)) p h k = absurd (omega arith)
 
-pub mask-bit : (k f : ℕ) → not (eqb (bit_and f (2 ^ k)) 0) ≡ bit k f
+pub mask_bit : (k f : ℕ) → not (eqb (bit_and f (2 ^ k)) 0) ≡ bit k f
 unfolding bit
-mask-bit k f =
+mask_bit k f =
     let e : 2 ^ (1 + k) - 2 ^ k ≡ 2 ^ k = power k in
     ap (λ (x : ℕ). not (eqb x 0)) (ap (bit_and f) (sym e) ∙ and_high f 1 k)
     ∙ tested (f / 2 ^ k % 2) (2 ^ k) (digit (f / 2 ^ k)) (pow_pos k)
@@ -102,10 +102,10 @@ mask-bit k f =
 
 -- ---- as the code names them: a mask, and whether it is not zero
 pub tells : (k f : ℕ) {m : ℕ} {r : Bool} → m ≡ bit_and f (2 ^ k) → r ≡ not (eqb m 0) → r ≡ bit k f
-tells k f e u = u ∙ ap (λ (x : ℕ). not (eqb x 0)) e ∙ mask-bit k f
+tells k f e u = u ∙ ap (λ (x : ℕ). not (eqb x 0)) e ∙ mask_bit k f
 
-pub names-all : (f : ℕ) {a b c d e g : Bool}
+pub names_all : (f : ℕ) {a b c d e g : Bool}
     → a ≡ bit 0 f → b ≡ bit 1 f → c ≡ bit 2 f → d ≡ bit 3 f → e ≡ bit 4 f → g ≡ bit 5 f
     → ◌≡◌ {A = Named} (record { mutable = a; watching = b; recursed_check = c; recursed = d; dirty = e; pending = g }) (named f)
 unfolding named
-names-all f p q r s t u = rw (p, q, r, s, t, u)
+names_all f p q r s t u = rw (p, q, r, s, t, u)

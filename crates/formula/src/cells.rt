@@ -1,12 +1,12 @@
 // One cell: a code and an operand, and the table of codes.
 ghost use Rattle.std.specs.Prelude.{◌≡◌};
-ghost use Rattle.trees.specs.Cells.{naturalOf, cell_of, bareOf, read_of, arityOf, name_of, cell_at, end_of};
+ghost use Rattle.trees.specs.Cells.{natural_of, cell_of, bare_of, read_of, arity_of, name_of, cell_at, end_of};
 
 use primitive::words;
 use trees::cells::{Cell, Number, Op};
 
 pub fn natural(k: i64) -> Number
-    ensures { result ≡ naturalOf k }
+    ensures { result ≡ natural_of k }
 {
     if k < 0 {
         return Number::None;
@@ -16,7 +16,7 @@ pub fn natural(k: i64) -> Number
 
 // A cell that carries operand 0.
 fn bare(operand: i64, c: Cell) -> Cell
-    ensures { result ≡ bareOf operand c }
+    ensures { result ≡ bare_of operand c }
 {
     let Number::Is(n) = natural(operand) else {
         return Cell::Bad;
@@ -68,7 +68,7 @@ pub fn cell_of(code: i64, operand: i64) -> Cell
 
 // How many arguments a cell takes.
 pub fn arity(c: Cell) -> Number
-    ensures { result ≡ arityOf c }
+    ensures { result ≡ arity_of c }
 {
     match c {
         Cell::Constant(_) => Number::Is(0),

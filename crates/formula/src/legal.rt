@@ -1,6 +1,6 @@
 // Whether a list of cells is a formula: one expression tree in prefix order, within the limits.
 ghost use Rattle.std.specs.Prelude.{◌≡◌};
-ghost use Rattle.trees.specs.Legal.{readableIn, known_in, takesIn, one_at, legalIn};
+ghost use Rattle.trees.specs.Legal.{readable_in, known_in, takes_in, one_at, legal_in};
 
 use crate::cells::{arity, cell_at, name};
 use primitive::rows::{COMPUTED, COUNT, KIND, NODE, SIGNAL};
@@ -13,7 +13,7 @@ pub const MOST_NESTING: u64 = 16;
 
 // Whether n is an existing signal or computed.
 pub fn readable(nodes: &[u64], n: u64) -> bool
-    ensures { result ≡ readableIn nodes.now n }
+    ensures { result ≡ readable_in nodes.now n }
 {
     if n >= words::at(nodes, COUNT) {
         return false;
@@ -37,7 +37,7 @@ fn known(nodes: &[u64], c: Cell) -> bool
 
 // How many arguments the cell takes; none where it names what cannot be read.
 fn takes(nodes: &[u64], c: Cell) -> Number
-    ensures { result ≡ takesIn nodes.now c }
+    ensures { result ≡ takes_in nodes.now c }
 {
     if !known(nodes, c) {
         return Number::None;
@@ -68,7 +68,7 @@ fn one(nodes: &[u64], cells: &[i64], depth: u64, i: u64) -> Number
 }
 
 pub fn legal(nodes: &[u64], cells: &[i64]) -> bool
-    ensures { result ≡ legalIn nodes.now cells.now }
+    ensures { result ≡ legal_in nodes.now cells.now }
 {
     let count = cells.len() / 2;
     if cells.len() % 2 != 0 {

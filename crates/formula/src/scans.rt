@@ -1,6 +1,6 @@
 // What a list of cells names: how many read cells it has, and its height.
 ghost use Rattle.std.specs.Prelude.{◌≡◌, suc, min};
-ghost use Rattle.trees.specs.Names.{readCells, mostHeight, heightIn, isRead, tallerIn, tallestIn};
+ghost use Rattle.trees.specs.Names.{read_cells, most_height, height_in, is_read, taller_in, tallest_in};
 
 use crate::cells::{cell_at, name};
 use primitive::rows::{LEVEL, NODE};
@@ -14,7 +14,7 @@ const OVER: u64 = 65;
 
 // The number of read cells, those in branches never taken among them.
 pub fn read_cells(cells: &[i64]) -> u64
-    ensures { result ≡ readCells cells.now }
+    ensures { result ≡ read_cells cells.now }
 {
     let end = (cells.len() / 2) as u64;
     let mut i: u64 = 0;
@@ -28,7 +28,7 @@ pub fn read_cells(cells: &[i64]) -> u64
 
 // 1 for a read cell, 0 for another.
 fn reads(c: Cell) -> u64
-    ensures { result ≡ isRead c }
+    ensures { result ≡ is_read c }
 {
     let Number::Is(_) = name(c) else {
         return 0;
@@ -38,7 +38,7 @@ fn reads(c: Cell) -> u64
 
 // The greater of a height and that of the node which the cell names.
 fn taller(nodes: &[u64], c: Cell, most: u64) -> u64
-    ensures { result ≡ tallerIn nodes.now c most }
+    ensures { result ≡ taller_in nodes.now c most }
 {
     let Number::Is(n) = name(c) else {
         return most;
@@ -49,7 +49,7 @@ fn taller(nodes: &[u64], c: Cell, most: u64) -> u64
 
 // The greatest height that the cells name, 0 if they name none.
 fn tallest(nodes: &[u64], cells: &[i64]) -> u64
-    ensures { result ≡ tallestIn nodes.now cells.now }
+    ensures { result ≡ tallest_in nodes.now cells.now }
 {
     let end = (cells.len() / 2) as u64;
     let mut i: u64 = 0;
@@ -63,7 +63,7 @@ fn tallest(nodes: &[u64], cells: &[i64]) -> u64
 
 // The height of a computed with these cells, or OVER.
 pub fn height(nodes: &[u64], cells: &[i64]) -> u64
-    ensures { result ≡ min (suc mostHeight) (heightIn nodes.now cells.now) }
+    ensures { result ≡ min (suc most_height) (height_in nodes.now cells.now) }
 {
     let most = tallest(nodes, cells);
     if most >= MOST_HEIGHT {

@@ -12,7 +12,7 @@ use Rattle.freshness.specs.Afresh.{paired, readings, Among, Differs}
 use Rattle.meaning.proofs.Laws.{clash}
 use Rattle.meaning.proofs.Still.{Given}
 use Rattle.meaning.proofs.Inside.{nobody, Static, Inside}
-use Rattle.freshness.proofs.Forms.{named, firsts, firsts-readings}
+use Rattle.freshness.proofs.Forms.{named, firsts, firsts_readings}
 use Rattle.freshness.proofs.Inv.{Records, Inv}
 use Rattle.freshness.proofs.Clean.{φ}
 use Rattle.freshness.proofs.Run.{Due}
@@ -23,37 +23,37 @@ unfolding paired
 among_in f (n ∷ ns) d v (inl e) = (inl e.0, e.1 ∙ ap f (sym e.0))
 among_in f (n ∷ ns) d v (inr i) = let r = among_in f ns d v i in (inr r.0, r.1)
 
-in-among : (f : ℕ → Value) (ns : List ℕ) (d : ℕ) → In d ns → Among d (f d) (paired f ns)
+in_among : (f : ℕ → Value) (ns : List ℕ) (d : ℕ) → In d ns → Among d (f d) (paired f ns)
 unfolding paired
-in-among f (n ∷ ns) d (inl e) = inl (e, ap f e)
-in-among f (n ∷ ns) d (inr i) = inr (in-among f ns d i)
+in_among f (n ∷ ns) d (inl e) = inl (e, ap f e)
+in_among f (n ∷ ns) d (inr i) = inr (in_among f ns d i)
 
 -- a record over the values that there are differs in nothing
-pub nothing-differs : (t : Tree) (f : ℕ → Value) → Differs (readings t f) f → ⊥
+pub nothing_differs : (t : Tree) (f : ℕ → Value) → Differs (readings t f) f → ⊥
 unfolding readings
-nothing-differs t f w = w.new (sym (among_in f (reads t f) w.node w.was w.read).1)
+nothing_differs t f w = w.new (sym (among_in f (reads t f) w.node w.was w.read).1)
 
 module _ (g : Given) (st : Static g) (p : ℕ → Value) (ρ : Records) (s : St) (i : Inside g nobody s) (v : Inv g p ρ nobody nobody s) (e : ℕ) (h : e < g.size) (k : g.kind e ≡ effect) (a : s.gone e ≡ false) (nd : (s.fl e).dirty ≡ false) where
   told : ρ e ≡ readings (g.form e) s.sto
   told = v.seen e h k a (λ z. z) nd
 
-  pub due-differs : Due g p s e → Differs (ρ e) (φ g p)
+  pub due_differs : Due g p s e → Differs (ρ e) (φ g p)
   unfolding readings
-  due-differs (inl d) = clash d nd
-  due-differs (inr w) =
+  due_differs (inl d) = clash d nd
+  due_differs (inr w) =
       let d = s.dep w.link in
       let j : In d (firsts (ρ e)) = (v.rec e h k a (λ z. z)).only d (record { slot = w.link; is_live = w.live; to = refl; from = w.to }) w.reads in
-      let r : In d (reads (g.form e) s.sto) = subst (In d) (ap firsts told ∙ firsts-readings (g.form e) s.sto) j in
-      record { node = d; was = s.sto d; read = subst (Among d (s.sto d)) (sym told) (in-among s.sto (reads (g.form e) s.sto) d r); new = λ z. w.old (sym z) }
+      let r : In d (reads (g.form e) s.sto) = subst (In d) (ap firsts told ∙ firsts_readings (g.form e) s.sto) j in
+      record { node = d; was = s.sto d; read = subst (Among d (s.sto d)) (sym told) (in_among s.sto (reads (g.form e) s.sto) d r); new = λ z. w.old (sym z) }
 
-  pub differs-due : Differs (ρ e) (φ g p) → Due g p s e
+  pub differs_due : Differs (ρ e) (φ g p) → Due g p s e
   unfolding readings
-  differs-due w =
+  differs_due w =
       let d = w.node in
       let r = among_in s.sto (reads (g.form e) s.sto) d w.was (subst (Among d w.was) told w.read) in
-      let j : In d (firsts (ρ e)) = subst (In d) (sym (ap firsts told ∙ firsts-readings (g.form e) s.sto)) r.0 in
+      let j : In d (firsts (ρ e)) = subst (In d) (sym (ap firsts told ∙ firsts_readings (g.form e) s.sto)) r.0 in
       let l = (v.rec e h k a (λ z. z)).all d j in
-      let low = st.names-lower e d h (named (g.form e) s.sto d r.0) in
+      let low = st.names_lower e d h (named (g.form e) s.sto d r.0) in
       inr (record {
         link = l.slot;
         live = l.is_live;

@@ -12,7 +12,7 @@ use Rattle.trees.specs.Trees.{Tree, constant, read, two, choose, chosen, worth, 
 use Rattle.trees.proofs.Local.{Agree, local}
 use Rattle.meaning.specs.WellFormed.{In}
 use Rattle.freshness.specs.Afresh.{paired, readings}
-use Rattle.meaning.proofs.Laws.{branch, in_left, in_right, in-cases}
+use Rattle.meaning.proofs.Laws.{branch, in_left, in_right, in_cases}
 
 agrees : (d e : ℕ → Value) (ns : List ℕ) → ((n : ℕ) → In n ns → d n ≡ e n) → Agree d e ns
 agrees d e [] h = tt
@@ -28,9 +28,9 @@ unfolding reads names chosen
 named (constant k) e n i = i
 named (read m) e n i = i
 named (two o a b) e n i =
-    in-cases n (reads a e) (reads b e) i (λ j. in_left n (names a) (names b) (named a e n j)) (λ j. in_right n (names a) (names b) (named b e n j))
+    in_cases n (reads a e) (reads b e) i (λ j. in_left n (names a) (names b) (named a e n j)) (λ j. in_right n (names a) (names b) (named b e n j))
 named (choose c a b) e n i =
-    in-cases n (reads c e) (elim (is_zero (worth c e)) [ true ↦ reads b e | false ↦ reads a e ]) i
+    in_cases n (reads c e) (elim (is_zero (worth c e)) [ true ↦ reads b e | false ↦ reads a e ]) i
     (λ j. in_left n (names c) (names a ++ names b) (named c e n j))
     (λ j. in_right n (names c) (names a ++ names b)
     (branch (λ (ns : List ℕ). In n ns → In n (names a ++ names b)) (is_zero (worth c e))
@@ -59,25 +59,25 @@ unfolding paired
 paired_same [] d e h = refl
 paired_same (n ∷ ns) d e h = ap₂ {A = ℕ × Value} ◌∷◌ (ap (λ (v : Value). (n, v)) (h n (inl refl))) (paired_same ns d e (λ m i. h m (inr i)))
 
-pub readings-same : (t : Tree) (d e : ℕ → Value) → ((n : ℕ) → In n (reads t d) → d n ≡ e n) → readings t d ≡ readings t e
+pub readings_same : (t : Tree) (d e : ℕ → Value) → ((n : ℕ) → In n (reads t d) → d n ≡ e n) → readings t d ≡ readings t e
 unfolding readings
-readings-same t d e h = paired_same (reads t d) d e h ∙ ap (paired e) (locally t d e h).1
+readings_same t d e h = paired_same (reads t d) d e h ∙ ap (paired e) (locally t d e h).1
 
 -- the nodes of a record
 unfoldable pub firsts : List (ℕ × Value) → List ℕ
 firsts [] = []
 firsts (x ∷ xs) = x.0 ∷ firsts xs
 
-pub firsts-paired : (e : ℕ → Value) (ns : List ℕ) → firsts (paired e ns) ≡ ns
+pub firsts_paired : (e : ℕ → Value) (ns : List ℕ) → firsts (paired e ns) ≡ ns
 unfolding firsts paired
-firsts-paired e [] = refl
-firsts-paired e (n ∷ ns) = ap (λ (x : List ℕ). n ∷ x) (firsts-paired e ns)
+firsts_paired e [] = refl
+firsts_paired e (n ∷ ns) = ap (λ (x : List ℕ). n ∷ x) (firsts_paired e ns)
 
-pub firsts-readings : (t : Tree) (e : ℕ → Value) → firsts (readings t e) ≡ reads t e
+pub firsts_readings : (t : Tree) (e : ℕ → Value) → firsts (readings t e) ≡ reads t e
 unfolding readings
-firsts-readings t e = firsts-paired e (reads t e)
+firsts_readings t e = firsts_paired e (reads t e)
 
-pub paired-join : (e : ℕ → Value) (ms ns : List ℕ) → paired e ms ++ paired e ns ≡ paired e (ms ++ ns)
+pub paired_join : (e : ℕ → Value) (ms ns : List ℕ) → paired e ms ++ paired e ns ≡ paired e (ms ++ ns)
 unfolding paired
-paired-join e [] ns = refl
-paired-join e (m ∷ ms) ns = ap (λ (x : List (ℕ × Value)). (m, e m) ∷ x) (paired-join e ms ns)
+paired_join e [] ns = refl
+paired_join e (m ∷ ms) ns = ap (λ (x : List (ℕ × Value)). (m, e m) ∷ x) (paired_join e ms ns)

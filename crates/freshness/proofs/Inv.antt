@@ -9,13 +9,13 @@ use Rattle.flags.specs.declared.Named.{Named}
 use Rattle.values.specs.declared.Value.{Value}
 use Rattle.trees.specs.Trees.{Tree, worth, reads}
 use Rattle.meaning.specs.State.{St, Kind, signal, computed, effect, Row, readable, unclean}
-use Rattle.meaning.specs.Setters.{withQueue, withDepth, withLog, withStuck}
+use Rattle.meaning.specs.Setters.{with_queue, with_depth, with_log, with_stuck}
 use Rattle.meaning.specs.WellFormed.{In}
 use Rattle.freshness.specs.Afresh.{readings}
-use Rattle.meaning.proofs.Laws.{or-first, or_left, or_right}
+use Rattle.meaning.proofs.Laws.{or_first, or_left, or_right}
 use Rattle.meaning.proofs.Still.{Given}
 use Rattle.meaning.proofs.Inside.{Set}
-use Rattle.freshness.proofs.Forms.{locally, readings-same, firsts, firsts-readings}
+use Rattle.freshness.proofs.Forms.{locally, readings_same, firsts, firsts_readings}
 
 abbrev pub Records : Type 0
 Records = ℕ → List (ℕ × Value)
@@ -72,40 +72,40 @@ exempt g p ρ X Y A B s f h i = record {
 }
 
 -- queue, depth, log and the mark of being stuck are not looked at
-pub beside : (g : Given) (p : ℕ → Value) (ρ : Records) (X A : Set) (s : St) → Inv g p ρ X A s → (q : List ℕ) (d : ℕ) (l : List Row) (b : Bool) → Inv g p ρ X A (withStuck (withLog (withDepth (withQueue s q) d) l) b)
+pub beside : (g : Given) (p : ℕ → Value) (ρ : Records) (X A : Set) (s : St) → Inv g p ρ X A s → (q : List ℕ) (d : ℕ) (l : List Row) (b : Bool) → Inv g p ρ X A (with_stuck (with_log (with_depth (with_queue s q) d) l) b)
 beside g p ρ X A s i q d l b = record { last = i.last; ver = i.ver; sig = i.sig; mark = i.mark; val = i.val; seen = i.seen; rec = i.rec }
 
 -- ---- flags
-pub not-dirty : (f : Named) → unclean f ≡ false → f.dirty ≡ false
-not-dirty f e = or_left f.dirty f.pending e
+pub not_dirty : (f : Named) → unclean f ≡ false → f.dirty ≡ false
+not_dirty f e = or_left f.dirty f.pending e
 
-pub not-pending : (f : Named) → unclean f ≡ false → f.pending ≡ false
-not-pending f e = or_right f.dirty f.pending e
+pub not_pending : (f : Named) → unclean f ≡ false → f.pending ≡ false
+not_pending f e = or_right f.dirty f.pending e
 
-pub dirty-unclean : (f : Named) → f.dirty ≡ true → unclean f ≡ true
-dirty-unclean f e = or-first f.dirty f.pending e
+pub dirty_unclean : (f : Named) → f.dirty ≡ true → unclean f ≡ true
+dirty_unclean f e = or_first f.dirty f.pending e
 
 -- ---- a node's clauses speak only of the values that its formula reads
 module _ (kind : ℕ → Kind) (live : ℕ → Bool) (dep sub : ℕ → ℕ) (form : Tree) (sto sto' : ℕ → Value) (c : ℕ)
     (same : (m : ℕ) → In m (reads form sto) → sto' m ≡ sto m) where
-  pub right-moves : sto' c ≡ sto c → RightBy kind live dep sub form sto c → RightBy kind live dep sub form sto' c
-  right-moves h r =
+  pub right_moves : sto' c ≡ sto c → RightBy kind live dep sub form sto c → RightBy kind live dep sub form sto' c
+  right_moves h r =
       let p = locally form sto sto' (λ m i. sym (same m i)) in
       record { value = h ∙ r.value ∙ p.0; reads = subst (λ (ns : List ℕ). ReadsBy kind live dep sub c ns) p.1 r.reads }
 
 pub seen_moves : (form : Tree) (sto sto' : ℕ → Value) (xs : List (ℕ × Value)) → ((m : ℕ) → In m (firsts xs) → sto' m ≡ sto m) → xs ≡ readings form sto → xs ≡ readings form sto'
 seen_moves form sto sto' xs same e =
-    let f : firsts xs ≡ reads form sto = ap firsts e ∙ firsts-readings form sto in
-    e ∙ readings-same form sto sto' (λ m i. sym (same m (subst (λ (ns : List ℕ). In m ns) (sym f) i)))
+    let f : firsts xs ≡ reads form sto = ap firsts e ∙ firsts_readings form sto in
+    e ∙ readings_same form sto sto' (λ m i. sym (same m (subst (λ (ns : List ℕ). In m ns) (sym f) i)))
 
 -- ---- and only of its own links
 module _ (kind : ℕ → Kind) (live live' : ℕ → Bool) (dep dep' sub sub' : ℕ → ℕ) (c : ℕ)
     (fore : (d : ℕ) → LinkedBy live dep sub d c → LinkedBy live' dep' sub' d c) (back : (d : ℕ) → LinkedBy live' dep' sub' d c → LinkedBy live dep sub d c) where
-  pub reads-relink : (ns : List ℕ) → ReadsBy kind live dep sub c ns → ReadsBy kind live' dep' sub' c ns
-  reads-relink ns r = record { all = λ d i. fore d (r.all d i); only = λ d l rd. r.only d (back d l) rd; can = r.can }
+  pub reads_relink : (ns : List ℕ) → ReadsBy kind live dep sub c ns → ReadsBy kind live' dep' sub' c ns
+  reads_relink ns r = record { all = λ d i. fore d (r.all d i); only = λ d l rd. r.only d (back d l) rd; can = r.can }
 
-  pub right-relink : (form : Tree) (sto : ℕ → Value) → RightBy kind live dep sub form sto c → RightBy kind live' dep' sub' form sto c
-  right-relink form sto r = record { value = r.value; reads = reads-relink (reads form sto) r.reads }
+  pub right_relink : (form : Tree) (sto : ℕ → Value) → RightBy kind live dep sub form sto c → RightBy kind live' dep' sub' form sto c
+  right_relink form sto r = record { value = r.value; reads = reads_relink (reads form sto) r.reads }
 
 -- ---- an evaluation of u that began at version `start` and has read ns: the links up to the cursor are those of ns, stamped since then; those after it are older
 pub record Evaluated (done rest : List ℕ) (dep ver : ℕ → ℕ) (start : ℕ) (ns : List ℕ) : Type 0 where

@@ -10,18 +10,18 @@ use lib.IntN.{ℤ}
 use borrow.Author.Tests.{eq-eqb}
 use Rattle.values.specs.declared.Value.{Value}
 use Rattle.meaning.specs.State.{St, effect, Row, f2, nothing, up}
-use Rattle.meaning.specs.Setters.{setFl}
+use Rattle.meaning.specs.Setters.{set_fl}
 use Rattle.meaning.specs.Reads.{evaluate}
 use Rattle.meaning.specs.Engine.{logged, owned}
-use Rattle.meaning.specs.Words.{Command, makeSignal, makeComputed, makeEffect, makeScope, set_to, addTo, read_of, disposeOf, batchStart, batchEnd}
+use Rattle.meaning.specs.Words.{Command, make_signal, make_computed, make_effect, make_scope, set_to, add_to, read_of, dispose_of, batch_start, batch_end}
 use Rattle.meaning.specs.WellFormed.{Once, WellFormed}
 use Rattle.freshness.specs.Afresh.{recorded, moved, rested}
 use Rattle.freshness.specs.Nodes.{changed}
-use Rattle.freshness.specs.History.{Course, depthAfter, isWrite}
+use Rattle.freshness.specs.History.{Course, depth_after, is_write}
 use Rattle.freshness.specs.Right.{flushes, closes, returned, Agrees}
-use Rattle.meaning.proofs.Laws.{clash, false≢true, up_same, up-other, up_by}
-use Rattle.meaning.proofs.Rings.{evaluate-ring}
-use Rattle.meaning.proofs.Still.{Given, given, Fixed, fixed, Still, link-still, renews-still}
+use Rattle.meaning.proofs.Laws.{clash, false≢true, up_same, up_other, up_by}
+use Rattle.meaning.proofs.Rings.{evaluate_ring}
+use Rattle.meaning.proofs.Still.{Given, given, Fixed, fixed, Still, link_still, renews_still}
 use Rattle.meaning.proofs.Flush.{Lasting, lasting, whos}
 use Rattle.meaning.proofs.Inside.{nobody}
 use Rattle.freshness.proofs.Inv.{Inv}
@@ -51,32 +51,32 @@ pub record Step (P : Course) (k : Command) (p : ℕ → Value) (g : Given) (t : 
   pub spent : t.cycle ≤ P.st.cycle + j
   pub runs : flushes P.past k ≡ true → Exactly-or g p P.past.reads t.log P.past.found t
   pub exact : closes P.past k ≡ true → Exactly g p P.past.reads t.log t
-  pub clean : P.past.writes ≡ true → isWrite k ≡ true → (t.depth ≡ 0 → ⊥) → Undirtied g t
+  pub clean : P.past.writes ≡ true → is_write k ≡ true → (t.depth ≡ 0 → ⊥) → Undirtied g t
   pub found : (t.depth ≡ 0 → ⊥) → (e : ℕ) → e < g.size → g.kind e ≡ effect → t.gone e ≡ false → (t.fl e).dirty ≡ rested (λ n. P.past.found n || moved P.st.sto t.sto (P.past.reads n)) t.log e
   pub value : v ≡ returned P.past.nodes.size (φ g p) k
   pub unwritten : (m : ℕ) → g.size ≤ m → p m ≡ nothing
   pub shows : Shows g (changed k P.past.nodes)
   pub passes : Passes g (changed k P.past.nodes).gone t.log t.gone
-  pub depth : t.depth ≡ depthAfter k P.past.depth
-  pub made : (o : ℤ) (cs : List ℤ) → k ≡ makeEffect o cs → (r : Row) × (r.who ≡ P.past.nodes.size) × (t.log ≡ r ∷ [])
-  pub silent : ((o : ℤ) (cs : List ℤ) → k ≡ makeEffect o cs → ⊥) → flushes P.past k ≡ false → t.log ≡ []
+  pub depth : t.depth ≡ depth_after k P.past.depth
+  pub made : (o : ℤ) (cs : List ℤ) → k ≡ make_effect o cs → (r : Row) × (r.who ≡ P.past.nodes.size) × (t.log ≡ r ∷ [])
+  pub silent : ((o : ℤ) (cs : List ℤ) → k ≡ make_effect o cs → ⊥) → flushes P.past k ≡ false → t.log ≡ []
 
 -- ---- which command it is
 abbrev pub code : Command → ℕ
-code (makeSignal v) = 1
-code (makeComputed cs) = 2
-code (makeEffect o cs) = 3
-code (makeScope o) = 4
+code (make_signal v) = 1
+code (make_computed cs) = 2
+code (make_effect o cs) = 3
+code (make_scope o) = 4
 code (set_to n v) = 5
-code (addTo n d) = 6
+code (add_to n d) = 6
 code (read_of n) = 7
-code (disposeOf n) = 8
-code batchStart = 9
-code batchEnd = 10
+code (dispose_of n) = 8
+code batch_start = 9
+code batch_end = 10
 
 -- it is not c
-pub not-it : {C : Type 0} (k c : Command) → eqb (code k) (code c) ≡ false → k ≡ c → C
-not-it k c e q = clash (eq-eqb (code k) (code c) (ap code q)) e
+pub not_it : {C : Type 0} (k c : Command) → eqb (code k) (code c) ≡ false → k ≡ c → C
+not_it k c e q = clash (eq-eqb (code k) (code c) (ap code q)) e
 
 pub and_last : (a b : Bool) → (a && b) ≡ true → b ≡ true
 and_last true b y = y
@@ -87,19 +87,19 @@ and_first true b y = refl
 and_first false b y = y
 
 -- an owner's link leaves the log and the depth alone
-pub owned-fixed : (s : St) (n : ℕ) (o : Option ℕ) → fixed (owned s n o) ≡ fixed s
-owned-fixed s n none = refl
-owned-fixed s n (some q) = (link-still s n q 0).same
+pub owned_fixed : (s : St) (n : ℕ) (o : Option ℕ) → fixed (owned s n o) ≡ fixed s
+owned_fixed s n none = refl
+owned_fixed s n (some q) = (link_still s n q 0).same
 
 -- a first run leaves nodes and depth alone
-pub evaluated-fixed : (x : St) (n : ℕ) → lasting (setFl (logged (evaluate x n) n) n f2) ≡ lasting x
+pub evaluated_fixed : (x : St) (n : ℕ) → lasting (set_fl (logged (evaluate x n) n) n f2) ≡ lasting x
 unfolding logged
-evaluated-fixed x n = ap (λ (f : Fixed). let y : Lasting = record { nodes = f.nodes; pend = f.pend; depth = f.depth; queue = f.queue } in y) (evaluate-ring Still renews-still x n).same
+evaluated_fixed x n = ap (λ (f : Fixed). let y : Lasting = record { nodes = f.nodes; pend = f.pend; depth = f.depth; queue = f.queue } in y) (evaluate_ring Still renews_still x n).same
 
 -- a column of marks with a new place
-pub up-agrees : (f h : ℕ → Bool) (n : ℕ) (v : Bool) → ((m : ℕ) → m < n → f m ≡ h m) → (m : ℕ) → m < suc n → up f n v m ≡ up h n v m
-up-agrees f h n v e m lt =
-    up_by f n v (λ (x : Bool). x ≡ up h n v m) m (λ q. sym (ap (up h n v) q ∙ up_same h n v)) (λ q. e m (less q) ∙ sym (up-other h n v m q))
+pub up_agrees : (f h : ℕ → Bool) (n : ℕ) (v : Bool) → ((m : ℕ) → m < n → f m ≡ h m) → (m : ℕ) → m < suc n → up f n v m ≡ up h n v m
+up_agrees f h n v e m lt =
+    up_by f n v (λ (x : Bool). x ≡ up h n v m) m (λ q. sym (ap (up h n v) q ∙ up_same h n v)) (λ q. e m (less q) ∙ sym (up_other h n v m q))
   where
     less : (m ≡ n → ⊥) → m < n
     less q = omega arith

@@ -10,30 +10,30 @@ use lib.Dec.{eqb}
 use lib.IntN.{pos, negsuc}
 use lib.ListN.{length}
 use Rattle.values.specs.declared.Value.{Value}
-use Rattle.values.proofs.ValueLaws.{yes-same}
-use Rattle.values.specs.Values.{value, sum, difference, minimum, maximum, less, clamp, same, sameNumber, is_zero}
-use Rattle.trees.specs.Cells.{cell_of, codes, read_of, bareOf}
+use Rattle.values.proofs.ValueLaws.{yes_same}
+use Rattle.values.specs.Values.{value, sum, difference, minimum, maximum, less, clamp, same, same_number, is_zero}
+use Rattle.trees.specs.Cells.{cell_of, codes, read_of, bare_of}
 use Rattle.trees.specs.Trees.{apply, worth, reads, written, size, names}
 use Rattle.meaning.specs.State.{up, below, empty}
-use Rattle.meaning.specs.Links.{provided, remove, each, renew, spent, insert, link, cut, lastLink, disposeW, unwatchedW, unlinkN}
+use Rattle.meaning.specs.Links.{provided, remove, each, renew, spent, insert, link, cut, last_link, dispose_w, unwatched_w, unlink_n}
 use Rattle.meaning.specs.Marks.{chain, calm, effects, notify, mark, prop, soil, wakes}
-use Rattle.meaning.specs.Reads.{evalBy, settleW, firstW, updComputed, updSignal, updW, sameSlots, steady, checkOn, checkW, pendingW, freshW, fresh}
-use Rattle.meaning.specs.Engine.{logged, rerun, run, flushOn, store, tallest, newSignal, newComputed, newScope, newEffect}
-use Rattle.meaning.specs.Words.{Command, makeSignal, makeEffect, set_to, batchEnd, read_of as readIt, word, no_word, wholeCells, codes as commands, commandOf, after as afterCells, grown, parse, tree_of}
+use Rattle.meaning.specs.Reads.{eval_by, settle_w, first_w, upd_computed, upd_signal, upd_w, same_slots, steady, check_on, check_w, pending_w, fresh_w, fresh}
+use Rattle.meaning.specs.Engine.{logged, rerun, run, flush_on, store, tallest, new_signal, new_computed, new_scope, new_effect}
+use Rattle.meaning.specs.Words.{Command, make_signal, make_effect, set_to, batch_end, read_of as readIt, word, no_word, whole_cells, codes as commands, command_of, after as afterCells, grown, parse, tree_of}
 use Rattle.meaning.specs.Reserve.{total, reserve}
-use Rattle.meaning.specs.Refusals.{liveEffects, asksOf, is_a, unknown, wrongNode, goneNode, allReadable, badFormula, tooHigh, noRoom, wrongDepth, fewRows, table as refusals, first, refusal}
-use Rattle.meaning.specs.Commands.{Answer, perform, performAny, answer, command}
-use Rattle.freshness.specs.Afresh.{afreshN, afreshOf, afresh, paired, readings, moved, recorded, rested, Among}
-use Rattle.meaning.specs.Evaluations.{inFormula, inUpdate, inCheckOn, inCheck, inPending, count_first, countFlushOn, countFresh, countFreshW, countNewEffect, countPerform, countRerun, countRun, countStore}
-use Rattle.freshness.specs.Evaluations.{inPerformAny, inAnswer}
+use Rattle.meaning.specs.Refusals.{live_effects, asks_of, is_a, unknown, wrong_node, gone_node, all_readable, bad_formula, too_high, no_room, wrong_depth, few_rows, table as refusals, first, refusal}
+use Rattle.meaning.specs.Commands.{Answer, perform, perform_any, answer, command}
+use Rattle.freshness.specs.Afresh.{afresh_n, afresh_of, afresh, paired, readings, moved, recorded, rested, Among}
+use Rattle.meaning.specs.Evaluations.{in_formula, in_update, in_check_on, in_check, in_pending, count_first, count_flush_on, count_fresh, count_fresh_w, count_new_effect, count_perform, count_rerun, count_run, count_store}
+use Rattle.freshness.specs.Evaluations.{in_perform_any, in_answer}
 use Rattle.meaning.specs.State.{St, Room, Row, nothing}
-use Rattle.meaning.specs.Setters.{withDepth, withDone, withFree, withLive, withLog, withSto, withSubs, setDone, setLive, setSubs}
-use Rattle.freshness.specs.Nodes.{ownsN, changed, ran}
+use Rattle.meaning.specs.Setters.{with_depth, with_done, with_free, with_live, with_log, with_sto, with_subs, set_done, set_live, set_subs}
+use Rattle.freshness.specs.Nodes.{owns_n, changed, ran}
 use Rattle.freshness.specs.History.{Call, Reply, seen, Engine, meant, replies, written as lastWritten, next, after}
 use Rattle.freshness.specs.Right.{returned, Demand3}
-use Rattle.meaning.proofs.Laws.{false≢true, up-other, up_by}
-use Rattle.freshness.proofs.Forms.{firsts, firsts-paired}
-use Rattle.freshness.proofs.Sound.{not-it, and_first}
+use Rattle.meaning.proofs.Laws.{false≢true, up_other, up_by}
+use Rattle.freshness.proofs.Forms.{firsts, firsts_paired}
+use Rattle.freshness.proofs.Sound.{not_it, and_first}
 use Rattle.freshness.proofs.Used.{room}
 
 -- signal 5; an effect that reads it; two writes to it; a read of it
@@ -62,17 +62,17 @@ owned1 = record { rows = 4; words = pos 3 ∷ pos 2 ∷ pos 2 ∷ pos 1 ∷ [] }
 abbrev begins : Call
 begins = record { rows = 4; words = pos 9 ∷ [] }
 
-abbrev set1-9 : Call
-set1-9 = record { rows = 4; words = pos 5 ∷ pos 1 ∷ pos 9 ∷ [] }
+abbrev set1_9 : Call
+set1_9 = record { rows = 4; words = pos 5 ∷ pos 1 ∷ pos 9 ∷ [] }
 
-abbrev set0-4 : Call
-set0-4 = record { rows = 4; words = pos 5 ∷ pos 0 ∷ pos 4 ∷ [] }
+abbrev set0_4 : Call
+set0_4 = record { rows = 4; words = pos 5 ∷ pos 0 ∷ pos 4 ∷ [] }
 
 abbrev pub ends : Call
 ends = record { rows = 4; words = pos 10 ∷ [] }
 
 abbrev pub case9 : List Call
-case9 = signal0 ∷ signal0 ∷ effect0 ∷ owned1 ∷ begins ∷ set1-9 ∷ set0-4 ∷ []
+case9 = signal0 ∷ signal0 ∷ effect0 ∷ owned1 ∷ begins ∷ set1_9 ∷ set0_4 ∷ []
 
 -- case 30: in a batch that signal is set to 3 and back, with a read after each
 abbrev set3 : Call
@@ -101,8 +101,8 @@ set0 = record { rows = 4; words = pos 5 ∷ pos 0 ∷ pos 0 ∷ [] }
 abbrev computed0 : Call
 computed0 = record { rows = 4; words = pos 2 ∷ pos 2 ∷ pos 0 ∷ [] }
 
-abbrev twice-0 : Call
-twice-0 = record { rows = 4; words = pos 3 ∷ negsuc 0 ∷ pos 3 ∷ pos 0 ∷ pos 2 ∷ pos 0 ∷ pos 3 ∷ pos 0 ∷ pos 2 ∷ pos 1 ∷ pos 2 ∷ pos 0 ∷ [] }
+abbrev twice_0 : Call
+twice_0 = record { rows = 4; words = pos 3 ∷ negsuc 0 ∷ pos 3 ∷ pos 0 ∷ pos 2 ∷ pos 0 ∷ pos 3 ∷ pos 0 ∷ pos 2 ∷ pos 1 ∷ pos 2 ∷ pos 0 ∷ [] }
 
 -- ---- the engines: document 01's, with another answer
 abbrev answers : ℕ → Value → List Row → Answer → Answer
@@ -113,8 +113,8 @@ abbrev refuses : Engine
 refuses s c = let a = meant s c in answers 2 nothing [] a
 
 -- reads back 0
-abbrev reads-0 : Engine
-reads-0 s c = let a = meant s c in answers a.code nothing a.rows a
+abbrev reads_0 : Engine
+reads_0 s c = let a = meant s c in answers a.code nothing a.rows a
 
 -- never runs a new effect, nor any other
 abbrev mute : Engine
@@ -125,8 +125,8 @@ abbrev loud : Engine
 loud s c = let a = meant s c in answers a.code a.val (record { who = 0; worth = nothing; reads = [] } ∷ []) a
 
 -- settles only its first flush
-abbrev settles-once : Engine
-settles-once s c = let a = meant s c in answers a.code a.val (elim (eqb s.cycle 0) [ true ↦ a.rows | false ↦ [] ]) a
+abbrev settles_once : Engine
+settles_once s c = let a = meant s c in answers a.code a.val (elim (eqb s.cycle 0) [ true ↦ a.rows | false ↦ [] ]) a
 
 -- has each row twice
 abbrev twice : Engine
@@ -173,26 +173,26 @@ stored s zero (some k) = returned s.size s.sto k
 stored s (suc r) o = nothing
 
 abbrev stale : Engine
-stale s c = let a = meant s c in answers a.code (stored s a.code (commandOf c.words)) a.rows a
+stale s c = let a = meant s c in answers a.code (stored s a.code (command_of c.words)) a.rows a
 
 -- ---- and with another state
 abbrev leaves : St → Answer → Answer
 leaves t a = record { st = t; code = a.code; val = a.val; rows = a.rows }
 
-abbrev stores-nothing : Engine
-stores-nothing s c = leaves s (meant s c)
+abbrev stores_nothing : Engine
+stores_nothing s c = leaves s (meant s c)
 
 -- its depth is always 7
 abbrev deep : Engine
-deep s c = let a = meant s c in leaves (withDepth a.st 7) a
+deep s c = let a = meant s c in leaves (with_depth a.st 7) a
 
 -- loses its links
 abbrev forgets : Engine
-forgets s c = let a = meant s c in leaves (withLive a.st (λ l. false)) a
+forgets s c = let a = meant s c in leaves (with_live a.st (λ l. false)) a
 
 -- never lets go of a link
 abbrev clings : Engine
-clings s c = let a = meant s c in leaves (withLive a.st (λ l. true)) a
+clings s c = let a = meant s c in leaves (with_live a.st (λ l. true)) a
 
 -- ---- and with another state that no reply shows: what it keeps after a call is read back before the next
 pub record Hidden : Type 0 where
@@ -204,16 +204,16 @@ pub record Hidden : Type 0 where
 abbrev pub behind : Hidden → Engine
 behind o s c = let a = meant (o.back s) c in leaves (o.keep a.st) a
 
-behind-replies : (o : Hidden) (h : List Call) (s t : St) → o.back t ≡ s → replies (behind o) t h ≡ replies meant s h
+behind_replies : (o : Hidden) (h : List Call) (s t : St) → o.back t ≡ s → replies (behind o) t h ≡ replies meant s h
 unfolding replies
-behind-replies o [] s t e = refl
-behind-replies o (c ∷ h) s t e =
+behind_replies o [] s t e = refl
+behind_replies o (c ∷ h) s t e =
     ap (λ (x : St). seen (meant x c) ∷ replies (behind o) (o.keep (meant x c).st) h) e
-    ∙ ap (λ (xs : List Reply). seen (meant s c) ∷ xs) (behind-replies o h (meant s c).st (o.keep (meant s c).st) (o.again (meant s c).st))
+    ∙ ap (λ (xs : List Reply). seen (meant s c) ∷ xs) (behind_replies o h (meant s c).st (o.keep (meant s c).st) (o.again (meant s c).st))
 
 -- each of them replies as document 01's engine does, to any calls
 pub unseen : (o : Hidden) (r : Room) (h : List Call) → replies (behind o) (empty r) h ≡ replies meant (empty r) h
-unseen o r h = behind-replies o h (empty r) (empty r) (o.begins r)
+unseen o r h = behind_replies o h (empty r) (empty r) (o.begins r)
 
 -- one place off
 abbrev off : {A : Type 0} → A → (ℕ → A) → ℕ → A
@@ -221,24 +221,24 @@ off a f zero = a
 off a f (suc n) = f n
 
 -- keeps each list of subscribers one place off
-abbrev pub off-subs : Hidden
+abbrev pub off_subs : Hidden
 unfolding empty
-off-subs = record { keep = λ s. withSubs s (off [] s.subs); back = λ s. withSubs s (λ n. s.subs (suc n)); again = λ s. refl; begins = λ r. refl }
+off_subs = record { keep = λ s. with_subs s (off [] s.subs); back = λ s. with_subs s (λ n. s.subs (suc n)); again = λ s. refl; begins = λ r. refl }
 
 abbrev unstrung : Engine
-unstrung = behind off-subs
+unstrung = behind off_subs
 
 -- keeps each stored value one place off
-abbrev pub off-values : Hidden
+abbrev pub off_values : Hidden
 unfolding empty
-off-values = record { keep = λ s. withSto s (off nothing s.sto); back = λ s. withSto s (λ n. s.sto (suc n)); again = λ s. refl; begins = λ r. refl }
+off_values = record { keep = λ s. with_sto s (off nothing s.sto); back = λ s. with_sto s (λ n. s.sto (suc n)); again = λ s. refl; begins = λ r. refl }
 
 abbrev misplaced : Engine
-misplaced = behind off-values
+misplaced = behind off_values
 
 -- once it has a node, has room for one more than was lent
-abbrev withRoom : St → Room → St
-withRoom s x = record { room = x; size = s.size; used = s.used; kind = s.kind; form = s.form; owner = s.owner; gone = s.gone; level = s.level; fl = s.fl; sto = s.sto; pend = s.pend; done = s.done; rest = s.rest; subs = s.subs; live = s.live; dep = s.dep; sub = s.sub; ver = s.ver; free = s.free; queue = s.queue; depth = s.depth; cycle = s.cycle; log = s.log; stuck = s.stuck }
+abbrev with_room : St → Room → St
+with_room s x = record { room = x; size = s.size; used = s.used; kind = s.kind; form = s.form; owner = s.owner; gone = s.gone; level = s.level; fl = s.fl; sto = s.sto; pend = s.pend; done = s.done; rest = s.rest; subs = s.subs; live = s.live; dep = s.dep; sub = s.sub; ver = s.ver; free = s.free; queue = s.queue; depth = s.depth; cycle = s.cycle; log = s.log; stuck = s.stuck }
 
 abbrev wider : ℕ → Room → Room
 wider zero r = r
@@ -248,13 +248,13 @@ abbrev narrower : ℕ → Room → Room
 narrower zero r = r
 narrower (suc n) r = record { nodes = pred r.nodes; slots = r.slots; cells = r.cells }
 
-pub narrower-wider : (n : ℕ) (r : Room) → narrower n (wider n r) ≡ r
-narrower-wider zero r = refl
-narrower-wider (suc n) r = refl
+pub narrower_wider : (n : ℕ) (r : Room) → narrower n (wider n r) ≡ r
+narrower_wider zero r = refl
+narrower_wider (suc n) r = refl
 
 abbrev pub wide : Hidden
 unfolding empty
-wide = record { keep = λ s. withRoom s (wider s.size s.room); back = λ s. withRoom s (narrower s.size s.room); again = λ s. ap (withRoom s) (narrower-wider s.size s.room); begins = λ r. refl }
+wide = record { keep = λ s. with_room s (wider s.size s.room); back = λ s. with_room s (narrower s.size s.room); again = λ s. ap (with_room s) (narrower_wider s.size s.room); begins = λ r. refl }
 
 abbrev roomy : Engine
 roomy = behind wide
@@ -271,8 +271,8 @@ abbrev lost : Bool → St → St
 lost true s =
     let d = s.dep 3 in
     let u = s.sub 3 in
-    withLog (withFree (setLive (setSubs (setDone s u (remove 3 (s.done u))) d (remove 3 (s.subs d))) 3 false) (3 ∷ s.free)) (aside 1 (s.done u) ∷ aside 0 (s.subs d) ∷ s.log)
-lost false s = withLog s (aside 0 [] ∷ s.log)
+    with_log (with_free (set_live (set_subs (set_done s u (remove 3 (s.done u))) d (remove 3 (s.subs d))) 3 false) (3 ∷ s.free)) (aside 1 (s.done u) ∷ aside 0 (s.subs d) ∷ s.log)
+lost false s = with_log s (aside 0 [] ∷ s.log)
 
 abbrev but_first : List ℕ → List ℕ
 but_first [] = []
@@ -280,74 +280,74 @@ but_first (x ∷ xs) = xs
 
 abbrev put_back : List (ℕ × Value) → List Row → St → St
 put_back ds [] s = s
-put_back ds (q ∷ rs) s = withLog (withFree (setLive (setSubs (setDone s (s.sub 3) (firsts ds)) (s.dep 3) (firsts q.reads)) 3 true) (but_first s.free)) rs
+put_back ds (q ∷ rs) s = with_log (with_free (set_live (set_subs (set_done s (s.sub 3) (firsts ds)) (s.dep 3) (firsts q.reads)) 3 true) (but_first s.free)) rs
 
 abbrev found : List Row → St → St
 found [] s = s
-found (r ∷ rs) s = elim r.who [ zero ↦ withLog s rs | suc n ↦ put_back r.reads rs s ]
+found (r ∷ rs) s = elim r.who [ zero ↦ with_log s rs | suc n ↦ put_back r.reads rs s ]
 
-up-back : {A : Type 0} (f : ℕ → A) (n : ℕ) (v w : A) → f n ≡ w → up (up f n v) n w ≡ f
-up-back f n v w e i m = up_by (up f n v) n w (λ x. x ≡ f m) m (λ z. sym e ∙ ap f (sym z)) (λ z. up-other f n v m z) i
+up_back : {A : Type 0} (f : ℕ → A) (n : ℕ) (v w : A) → f n ≡ w → up (up f n v) n w ≡ f
+up_back f n v w e i m = up_by (up f n v) n w (λ x. x ≡ f m) m (λ z. sym e ∙ ap f (sym z)) (λ z. up_other f n v m z) i
 
-pub found-lost : (b : Bool) (s : St) → (b ≡ true → s.live 3 ≡ true) → found (lost b s).log (lost b s) ≡ s
-found-lost false s h = refl
-found-lost true s h =
+pub found_lost : (b : Bool) (s : St) → (b ≡ true → s.live 3 ≡ true) → found (lost b s).log (lost b s) ≡ s
+found_lost false s h = refl
+found_lost true s h =
     let d = s.dep 3 in
     let u = s.sub 3 in
-    let done = up-back s.done u (remove 3 (s.done u)) (firsts (paired (λ l. nothing) (s.done u))) (sym (firsts-paired (λ l. nothing) (s.done u))) in
-    let subs = up-back s.subs d (remove 3 (s.subs d)) (firsts (paired (λ l. nothing) (s.subs d))) (sym (firsts-paired (λ l. nothing) (s.subs d))) in
-    let live = up-back s.live 3 false true (h refl) in
-    λ i. withLive (withSubs (withDone s (done i)) (subs i)) (live i)
+    let done = up_back s.done u (remove 3 (s.done u)) (firsts (paired (λ l. nothing) (s.done u))) (sym (firsts_paired (λ l. nothing) (s.done u))) in
+    let subs = up_back s.subs d (remove 3 (s.subs d)) (firsts (paired (λ l. nothing) (s.subs d))) (sym (firsts_paired (λ l. nothing) (s.subs d))) in
+    let live = up_back s.live 3 false true (h refl) in
+    λ i. with_live (with_subs (with_done s (done i)) (subs i)) (live i)
 
 abbrev pub one_of_two : Hidden
 unfolding empty
-one_of_two = record { keep = λ s. lost (doubled s) s; back = λ s. found s.log s; again = λ s. found-lost (doubled s) s (and_first (s.live 3) _); begins = λ r. refl }
+one_of_two = record { keep = λ s. lost (doubled s) s; back = λ s. found s.log s; again = λ s. found_lost (doubled s) s (and_first (s.live 3) _); begins = λ r. refl }
 
-abbrev forgets-second : Engine
-forgets-second = behind one_of_two
+abbrev forgets_second : Engine
+forgets_second = behind one_of_two
 
 longer : {C : Type 0} (r : Row) → [] ≡ r ∷ [] → C
 longer r e = let z = ap (λ (x : List Row). length x) e in absurd (omega arith)
 
 -- after the turn node 1 is not read
-turned-away : (v : Value) → Among 1 v ((0, value (pos 0)) ∷ (2, value (pos 6)) ∷ []) → ⊥
-turned-away v (inl e) = let z = e.0 in absurd (omega arith)
-turned-away v (inr (inl e)) = let z = e.0 in absurd (omega arith)
-turned-away v (inr (inr e)) = e
+turned_away : (v : Value) → Among 1 v ((0, value (pos 0)) ∷ (2, value (pos 6)) ∷ []) → ⊥
+turned_away v (inl e) = let z = e.0 in absurd (omega arith)
+turned_away v (inr (inl e)) = let z = e.0 in absurd (omega arith)
+turned_away v (inr (inr e)) = e
 
-pub none-is-right : (Demand3 refuses → ⊥) × (Demand3 reads-0 → ⊥) × (Demand3 mute → ⊥) × (Demand3 loud → ⊥) × (Demand3 settles-once → ⊥) × (Demand3 stores-nothing → ⊥) × (Demand3 deep → ⊥) × (Demand3 forgets → ⊥) × (Demand3 twice → ⊥) × (Demand3 turns → ⊥) × (Demand3 early → ⊥) × (Demand3 unstrung → ⊥) × (Demand3 clings → ⊥) × (Demand3 misplaced → ⊥) × (Demand3 roomy → ⊥) × (Demand3 forgets-second → ⊥) × (Demand3 forgives → ⊥) × (Demand3 lies → ⊥) × (Demand3 stale → ⊥)
-unfolding Demand3 sum difference minimum maximum less clamp same sameNumber is_zero cell_of codes read_of bareOf apply written size names up below empty provided remove each renew spent insert link cut lastLink disposeW unwatchedW unlinkN chain calm effects notify mark prop soil wakes evalBy settleW firstW updComputed updSignal updW sameSlots steady checkOn checkW pendingW freshW fresh logged rerun run flushOn store tallest newSignal newComputed newScope newEffect no_word word wholeCells commands commandOf afterCells grown parse tree_of total reserve liveEffects asksOf is_a unknown wrongNode goneNode allReadable badFormula tooHigh noRoom wrongDepth fewRows refusals first refusal perform performAny answer command recorded inFormula count_first inUpdate inCheckOn inCheck inPending countFreshW countFresh countRerun countRun countFlushOn countStore countNewEffect countPerform inPerformAny inAnswer lastWritten next after afreshN afreshOf paired readings moved ownsN changed ran reads worth rested
-none-is-right = (
+pub none_is_right : (Demand3 refuses → ⊥) × (Demand3 reads_0 → ⊥) × (Demand3 mute → ⊥) × (Demand3 loud → ⊥) × (Demand3 settles_once → ⊥) × (Demand3 stores_nothing → ⊥) × (Demand3 deep → ⊥) × (Demand3 forgets → ⊥) × (Demand3 twice → ⊥) × (Demand3 turns → ⊥) × (Demand3 early → ⊥) × (Demand3 unstrung → ⊥) × (Demand3 clings → ⊥) × (Demand3 misplaced → ⊥) × (Demand3 roomy → ⊥) × (Demand3 forgets_second → ⊥) × (Demand3 forgives → ⊥) × (Demand3 lies → ⊥) × (Demand3 stale → ⊥)
+unfolding Demand3 sum difference minimum maximum less clamp same same_number is_zero cell_of codes read_of bare_of apply written size names up below empty provided remove each renew spent insert link cut last_link dispose_w unwatched_w unlink_n chain calm effects notify mark prop soil wakes eval_by settle_w first_w upd_computed upd_signal upd_w same_slots steady check_on check_w pending_w fresh_w fresh logged rerun run flush_on store tallest new_signal new_computed new_scope new_effect no_word word whole_cells commands command_of afterCells grown parse tree_of total reserve live_effects asks_of is_a unknown wrong_node gone_node all_readable bad_formula too_high no_room wrong_depth few_rows refusals first refusal perform perform_any answer command recorded in_formula count_first in_update in_check_on in_check in_pending count_fresh_w count_fresh count_rerun count_run count_flush_on count_store count_new_effect count_perform in_perform_any in_answer lastWritten next after afresh_n afresh_of paired readings moved owns_n changed ran reads worth rested
+none_is_right = (
   λ d. let e : ◌≡◌ {A = ℕ} 2 0 = (d room refl [] signal5 (omega arith)).0.code in absurd (omega arith),
   λ d. let e : nothing ≡ value (pos 5) = ((d room refl (signal5 ∷ []) read0 (omega arith)).0.accepted (readIt (pos 0)) refl refl).value in false≢true (sym (ap is_zero e)),
-  λ d. let e = ((d room refl (signal5 ∷ []) effect0 (omega arith)).0.accepted (makeEffect (negsuc 0) (pos 2 ∷ pos 0 ∷ [])) refl refl).made (negsuc 0) (pos 2 ∷ pos 0 ∷ []) refl in longer e.0 e.2,
-  λ d. let e = ((d room refl [] signal5 (omega arith)).0.accepted (makeSignal (pos 5)) refl refl).none-else (λ o cs q. not-it (makeSignal (pos 5)) (makeEffect o cs) refl q) refl in longer _ (sym e),
+  λ d. let e = ((d room refl (signal5 ∷ []) effect0 (omega arith)).0.accepted (make_effect (negsuc 0) (pos 2 ∷ pos 0 ∷ [])) refl refl).made (negsuc 0) (pos 2 ∷ pos 0 ∷ []) refl in longer e.0 e.2,
+  λ d. let e = ((d room refl [] signal5 (omega arith)).0.accepted (make_signal (pos 5)) refl refl).none_else (λ o cs q. not_it (make_signal (pos 5)) (make_effect o cs) refl q) refl in longer _ (sym e),
   λ d. (((d room refl (signal5 ∷ effect0 ∷ set6 ∷ []) set7 (omega arith)).0.accepted (set_to (pos 0) (pos 7)) refl refl).exactly refl).1 1 (omega arith, refl, refl)
-      (record { node = 0; was = value (pos 6); read = inl (refl, refl); new = λ e. false≢true (yes-same (value (pos 7)) (value (pos 6)) e) }),
+      (record { node = 0; was = value (pos 6); read = inl (refl, refl); new = λ e. false≢true (yes_same (value (pos 7)) (value (pos 6)) e) }),
   λ d. let e : ◌≡◌ {A = ℕ} 3 0 = (d room refl (signal5 ∷ []) read0 (omega arith)).0.code in absurd (omega arith),
   λ d. let e : ◌≡◌ {A = ℕ} 7 0 = (d room refl [] signal5 (omega arith)).1.agrees.depth in absurd (omega arith),
   λ d. let e = ((d room refl (signal5 ∷ []) effect0 (omega arith)).1.records 1 (omega arith, refl, refl)).linked 0 (value (pos 5)) (inl (refl, refl)) in false≢true e.1,
   λ d. ((d room refl (signal5 ∷ effect0 ∷ []) set6 (omega arith)).0.accepted (set_to (pos 0) (pos 6)) refl refl).once.0 (inl refl),
   λ d. let e : ◌≡◌ {A = ℕ} 2 1 = (d room refl (signal5 ∷ effect0 ∷ effect0 ∷ []) set6 (omega arith)).0.order.0 in absurd (omega arith),
   λ d. let e : ◌≡◌ {A = ℕ} 3 2 = (d room refl case9 ends (omega arith)).0.order.0 in absurd (omega arith),
-  λ d. (d room refl (signal5 ∷ []) effect0 (omega arith)).1.formed.lists.live-in-subs 0 refl,
-  λ d. let x = ((d room refl (signal1 ∷ signal5 ∷ signal6 ∷ chooses ∷ []) set0 (omega arith)).1.records 3 (omega arith, refl, refl)).read 1 refl refl refl in turned-away x.0 x.1,
+  λ d. (d room refl (signal5 ∷ []) effect0 (omega arith)).1.formed.lists.live_in_subs 0 refl,
+  λ d. let x = ((d room refl (signal1 ∷ signal5 ∷ signal6 ∷ chooses ∷ []) set0 (omega arith)).1.records 3 (omega arith, refl, refl)).read 1 refl refl refl in turned_away x.0 x.1,
   λ d. let e : nothing ≡ value (pos 5) = ap (λ (s : St). s.sto 0) (d room refl [] signal5 (omega arith)).1.ours in false≢true (sym (ap is_zero e)),
   λ d. let e : ◌≡◌ {A = ℕ} 17 16 = ap (λ (s : St). s.room.nodes) (d room refl [] signal5 (omega arith)).1.ours in absurd (omega arith),
-  λ d. let e : false ≡ true = ap (λ (s : St). s.live 3) (d room refl (signal0 ∷ computed0 ∷ []) twice-0 (omega arith)).1.ours in false≢true e,
-  λ d. (((d room refl case30 ends (omega arith)).0.accepted batchEnd refl refl).runs refl).1 1 (omega arith, refl, refl) (inl refl),
-  λ d. let e = ((d room refl (signal5 ∷ []) effect0 (omega arith)).0.accepted (makeEffect (negsuc 0) (pos 2 ∷ pos 0 ∷ [])) refl refl).rows.1 in let z = ap (λ (x : List (ℕ × Value)). length x) e in absurd (omega arith),
+  λ d. let e : false ≡ true = ap (λ (s : St). s.live 3) (d room refl (signal0 ∷ computed0 ∷ []) twice_0 (omega arith)).1.ours in false≢true e,
+  λ d. (((d room refl case30 ends (omega arith)).0.accepted batch_end refl refl).runs refl).1 1 (omega arith, refl, refl) (inl refl),
+  λ d. let e = ((d room refl (signal5 ∷ []) effect0 (omega arith)).0.accepted (make_effect (negsuc 0) (pos 2 ∷ pos 0 ∷ [])) refl refl).rows.1 in let z = ap (λ (x : List (ℕ × Value)). length x) e in absurd (omega arith),
   λ d. let e : value (pos 5) ≡ nothing = ((d room refl (signal5 ∷ begins ∷ set0 ∷ []) read0 (omega arith)).0.accepted (readIt (pos 0)) refl refl).value in false≢true (ap is_zero e),
 )
 
 -- ---- two that keep another state are seen by their rows too: after the turn and a write to what is no longer read
-abbrev runsOf : List Reply → List ℕ
-runsOf [] = []
-runsOf (a ∷ xs) = length a.rows ∷ runsOf xs
+abbrev runs_of : List Reply → List ℕ
+runs_of [] = []
+runs_of (a ∷ xs) = length a.rows ∷ runs_of xs
 
 abbrev turning : List Call
-turning = signal1 ∷ signal5 ∷ signal6 ∷ chooses ∷ set0 ∷ set1-9 ∷ []
+turning = signal1 ∷ signal5 ∷ signal6 ∷ chooses ∷ set0 ∷ set1_9 ∷ []
 
-pub runs-differ : (runsOf (replies meant (empty room) turning) ≡ 0 ∷ 0 ∷ 0 ∷ 1 ∷ 1 ∷ 0 ∷ []) × (runsOf (replies forgets (empty room) turning) ≡ 0 ∷ 0 ∷ 0 ∷ 1 ∷ 1 ∷ 1 ∷ []) × (runsOf (replies deep (empty room) turning) ≡ 0 ∷ 0 ∷ 0 ∷ 1 ∷ 0 ∷ 0 ∷ [])
-unfolding replies sum difference minimum maximum less clamp same sameNumber is_zero cell_of codes read_of bareOf apply written size names up below empty provided remove each renew spent insert link cut lastLink disposeW unwatchedW unlinkN chain calm effects notify mark prop soil wakes evalBy settleW firstW updComputed updSignal updW sameSlots steady checkOn checkW pendingW freshW fresh logged rerun run flushOn store tallest newSignal newComputed newScope newEffect no_word word wholeCells commands commandOf afterCells grown parse tree_of total reserve liveEffects asksOf is_a unknown wrongNode goneNode allReadable badFormula tooHigh noRoom wrongDepth fewRows refusals first refusal perform performAny answer command recorded inFormula count_first inUpdate inCheckOn inCheck inPending countFreshW countFresh countRerun countRun countFlushOn countStore countNewEffect countPerform inPerformAny inAnswer
-runs-differ = (refl, refl, refl)
+pub runs_differ : (runs_of (replies meant (empty room) turning) ≡ 0 ∷ 0 ∷ 0 ∷ 1 ∷ 1 ∷ 0 ∷ []) × (runs_of (replies forgets (empty room) turning) ≡ 0 ∷ 0 ∷ 0 ∷ 1 ∷ 1 ∷ 1 ∷ []) × (runs_of (replies deep (empty room) turning) ≡ 0 ∷ 0 ∷ 0 ∷ 1 ∷ 0 ∷ 0 ∷ [])
+unfolding replies sum difference minimum maximum less clamp same same_number is_zero cell_of codes read_of bare_of apply written size names up below empty provided remove each renew spent insert link cut last_link dispose_w unwatched_w unlink_n chain calm effects notify mark prop soil wakes eval_by settle_w first_w upd_computed upd_signal upd_w same_slots steady check_on check_w pending_w fresh_w fresh logged rerun run flush_on store tallest new_signal new_computed new_scope new_effect no_word word whole_cells commands command_of afterCells grown parse tree_of total reserve live_effects asks_of is_a unknown wrong_node gone_node all_readable bad_formula too_high no_room wrong_depth few_rows refusals first refusal perform perform_any answer command recorded in_formula count_first in_update in_check_on in_check in_pending count_fresh_w count_fresh count_rerun count_run count_flush_on count_store count_new_effect count_perform in_perform_any in_answer
+runs_differ = (refl, refl, refl)

@@ -6,17 +6,17 @@ use Rattle.trees.specs.Trees.{Tree, worth, reads}
 use Rattle.meaning.specs.State.{St, Kind, signal, computed, effect, scope, Row, up}
 
 -- k bounds how far down formulas are followed: they name lower numbers only
-unfoldable pub afreshN : (ℕ → Kind) → (ℕ → Tree) → (ℕ → Value) → ℕ → ℕ → Value
-afreshN kind form last zero n = last n
-afreshN kind form last (suc k) n =
-    elim (kind n) [ signal ↦ last n | computed ↦ worth (form n) (afreshN kind form last k) | effect ↦ worth (form n) (afreshN kind form last k) | scope ↦ last n ]
+unfoldable pub afresh_n : (ℕ → Kind) → (ℕ → Tree) → (ℕ → Value) → ℕ → ℕ → Value
+afresh_n kind form last zero n = last n
+afresh_n kind form last (suc k) n =
+    elim (kind n) [ signal ↦ last n | computed ↦ worth (form n) (afresh_n kind form last k) | effect ↦ worth (form n) (afresh_n kind form last k) | scope ↦ last n ]
 
-unfoldable pub afreshOf : (ℕ → Kind) → (ℕ → Tree) → (ℕ → Value) → ℕ → Value
-afreshOf kind form last n = afreshN kind form last (suc n) n
+unfoldable pub afresh_of : (ℕ → Kind) → (ℕ → Tree) → (ℕ → Value) → ℕ → Value
+afresh_of kind form last n = afresh_n kind form last (suc n) n
 
 -- the last written value of a signal is its pending one
 abbrev pub afresh : St → ℕ → Value
-afresh s = afreshOf s.kind s.form s.pend
+afresh s = afresh_of s.kind s.form s.pend
 
 -- what working a tree out reads: each node with its value, in order
 unfoldable pub paired : (ℕ → Value) → List ℕ → List (ℕ × Value)

@@ -4,12 +4,12 @@ use Rattle.std.proofs.Math.Option.{Option, none, some}
 use Rattle.values.specs.declared.Value.{Value}
 use Rattle.values.specs.Values.{value, sum}
 use Rattle.meaning.specs.State.{St, Room, Row, nothing, up, empty}
-use Rattle.meaning.specs.Words.{Command, makeSignal, makeComputed, makeEffect, makeScope, set_to, addTo, read_of, disposeOf, batchStart, batchEnd, commandOf, nodeOf}
+use Rattle.meaning.specs.Words.{Command, make_signal, make_computed, make_effect, make_scope, set_to, add_to, read_of, dispose_of, batch_start, batch_end, command_of, node_of}
 use Rattle.meaning.specs.Refusals.{sight_of, refusal}
 use Rattle.meaning.specs.Commands.{Answer, command}
-use Rattle.freshness.specs.Evaluations.{inAnswer}
+use Rattle.freshness.specs.Evaluations.{in_answer}
 use Rattle.freshness.specs.Afresh.{recorded, moved, rested}
-use Rattle.freshness.specs.Nodes.{Nodes, noNodes, changed, ran}
+use Rattle.freshness.specs.Nodes.{Nodes, no_nodes, changed, ran}
 
 -- a command and the rows of its lent log
 pub record Call : Type 0 where
@@ -34,8 +34,8 @@ abbrev pub meant : Engine
 meant s c = command true s c.rows c.words
 
 -- the evaluations that it makes in a call
-abbrev pub inCall : St → Call → ℕ
-inCall s c = inAnswer (refusal true (sight_of s c.rows) c.words) s c.words
+abbrev pub in_call : St → Call → ℕ
+in_call s c = in_answer (refusal true (sight_of s c.rows) c.words) s c.words
 
 -- ---- of a history, from a state on
 -- what an engine replies to each of these calls
@@ -44,9 +44,9 @@ replies E s [] = []
 replies E s (c ∷ cs) = seen (E s c) ∷ replies E (E s c).st cs
 
 -- the evaluations that document 01's makes in them
-unfoldable pub inCalls : St → List Call → ℕ
-inCalls s [] = 0
-inCalls s (c ∷ cs) = inCall s c + inCalls (meant s c).st cs
+unfoldable pub in_calls : St → List Call → ℕ
+in_calls s [] = 0
+in_calls s (c ∷ cs) = in_call s c + in_calls (meant s c).st cs
 
 -- ---- what has happened so far: the calls, and what was answered
 pub record Past : Type 0 where
@@ -61,49 +61,49 @@ pub record Past : Type 0 where
 
 -- the value given at making, the value set, or current + d at an add
 unfoldable pub written : ℕ → (ℕ → Value) → Command → (ℕ → Value) → ℕ → Value
-written size current (makeSignal v) p = up p size (value v)
-written size current (makeComputed cs) p = p
-written size current (makeEffect o cs) p = p
-written size current (makeScope o) p = p
-written size current (set_to n v) p = up p (nodeOf n) (value v)
-written size current (addTo n d) p = up p (nodeOf n) (sum (current (nodeOf n)) (value d))
+written size current (make_signal v) p = up p size (value v)
+written size current (make_computed cs) p = p
+written size current (make_effect o cs) p = p
+written size current (make_scope o) p = p
+written size current (set_to n v) p = up p (node_of n) (value v)
+written size current (add_to n d) p = up p (node_of n) (sum (current (node_of n)) (value d))
 written size current (read_of n) p = p
-written size current (disposeOf n) p = p
-written size current batchStart p = p
-written size current batchEnd p = p
+written size current (dispose_of n) p = p
+written size current batch_start p = p
+written size current batch_end p = p
 
-abbrev pub depthAfter : Command → ℕ → ℕ
-depthAfter (makeSignal v) d = d
-depthAfter (makeComputed cs) d = d
-depthAfter (makeEffect o cs) d = d
-depthAfter (makeScope o) d = d
-depthAfter (set_to n v) d = d
-depthAfter (addTo n k) d = d
-depthAfter (read_of n) d = d
-depthAfter (disposeOf n) d = d
-depthAfter batchStart d = suc d
-depthAfter batchEnd d = pred d
+abbrev pub depth_after : Command → ℕ → ℕ
+depth_after (make_signal v) d = d
+depth_after (make_computed cs) d = d
+depth_after (make_effect o cs) d = d
+depth_after (make_scope o) d = d
+depth_after (set_to n v) d = d
+depth_after (add_to n k) d = d
+depth_after (read_of n) d = d
+depth_after (dispose_of n) d = d
+depth_after batch_start d = suc d
+depth_after batch_end d = pred d
 
-abbrev pub isWrite : Command → Bool
-isWrite (makeSignal v) = false
-isWrite (makeComputed cs) = false
-isWrite (makeEffect o cs) = false
-isWrite (makeScope o) = false
-isWrite (set_to n v) = true
-isWrite (addTo n d) = true
-isWrite (read_of n) = false
-isWrite (disposeOf n) = false
-isWrite batchStart = true
-isWrite batchEnd = true
+abbrev pub is_write : Command → Bool
+is_write (make_signal v) = false
+is_write (make_computed cs) = false
+is_write (make_effect o cs) = false
+is_write (make_scope o) = false
+is_write (set_to n v) = true
+is_write (add_to n d) = true
+is_write (read_of n) = false
+is_write (dispose_of n) = false
+is_write batch_start = true
+is_write batch_end = true
 
 -- at depth 0 a new batch may begin
-abbrev pub writesOn : ℕ → Bool → Bool
-writesOn zero b = true
-writesOn (suc d) b = b
+abbrev pub writes_on : ℕ → Bool → Bool
+writes_on zero b = true
+writes_on (suc d) b = b
 
-abbrev pub foundOn : ℕ → (ℕ → Bool) → ℕ → Bool
-foundOn zero f = λ e. false
-foundOn (suc d) f = f
+abbrev pub found_on : ℕ → (ℕ → Bool) → ℕ → Bool
+found_on zero f = λ e. false
+found_on (suc d) f = f
 
 -- after an answer of this code with these rows; a refused command leaves all as it was, and so do words that are no command
 unfoldable pub next : Past → St → ℕ → ℕ → List Row → Option Command → Past
@@ -113,18 +113,18 @@ next p s m zero rows (some k) = record {
   ours = s;
   many = p.many + m;
   nodes = ran (changed k p.nodes) rows;
-  depth = depthAfter k p.depth;
+  depth = depth_after k p.depth;
   last = written p.nodes.size p.ours.sto k p.last;
   reads = recorded p.reads rows;
-  writes = writesOn (depthAfter k p.depth) (p.writes && isWrite k);
-  found = foundOn (depthAfter k p.depth) (rested (λ e. p.found e || moved p.ours.sto s.sto (p.reads e)) rows);
+  writes = writes_on (depth_after k p.depth) (p.writes && is_write k);
+  found = found_on (depth_after k p.depth) (rested (λ e. p.found e || moved p.ours.sto s.sto (p.reads e)) rows);
 }
 
 abbrev pub told : Past → Call → Reply → Past
-told p c a = next p (meant p.ours c).st (inCall p.ours c) a.code a.rows (commandOf c.words)
+told p c a = next p (meant p.ours c).st (in_call p.ours c) a.code a.rows (command_of c.words)
 
 abbrev pub begun : Room → Past
-begun r = record { ours = empty r; many = 0; nodes = noNodes; depth = 0; last = λ n. nothing; reads = λ e. []; writes = true; found = λ e. false }
+begun r = record { ours = empty r; many = 0; nodes = no_nodes; depth = 0; last = λ n. nothing; reads = λ e. []; writes = true; found = λ e. false }
 
 -- an engine on its way: its state, and what it has told
 pub record Course : Type 0 where

@@ -3,7 +3,7 @@ use Rattle.std.specs.Prelude.{Bool, false, ◌||◌, List, [], ◌∷◌, ℕ, z
 use Rattle.std.proofs.Math.Option.{Option, none}
 use Rattle.trees.specs.Trees.{Tree, constant}
 use Rattle.meaning.specs.State.{Kind, signal, computed, effect, scope, Row, on, up}
-use Rattle.meaning.specs.Words.{Command, makeSignal, makeComputed, makeEffect, makeScope, set_to, addTo, read_of, disposeOf, batchStart, batchEnd, nodeOf, ownerOf, formulaOf}
+use Rattle.meaning.specs.Words.{Command, make_signal, make_computed, make_effect, make_scope, set_to, add_to, read_of, dispose_of, batch_start, batch_end, node_of, owner_of, formula_of}
 
 pub record Nodes : Type 0 where
   pub size : ℕ  -- nodes are 0 .. size - 1
@@ -12,22 +12,22 @@ pub record Nodes : Type 0 where
   pub owner : ℕ → Option ℕ
   pub gone : ℕ → Bool
 
-abbrev pub noNodes : Nodes
-noNodes = record { size = 0; kind = λ n. scope; form = λ n. constant (pos 0); owner = λ n. none; gone = λ n. false }
+abbrev pub no_nodes : Nodes
+no_nodes = record { size = 0; kind = λ n. scope; form = λ n. constant (pos 0); owner = λ n. none; gone = λ n. false }
 
 -- a new node has the next number
-abbrev pub withNew : Nodes → Kind → Tree → Option ℕ → Nodes
-withNew g k t o =
+abbrev pub with_new : Nodes → Kind → Tree → Option ℕ → Nodes
+with_new g k t o =
     let n = g.size in
     record { size = suc n; kind = up g.kind n k; form = up g.form n t; owner = up g.owner n o; gone = up g.gone n false }
 
 -- x is the owner of y, or the owner's owner, ..; k bounds how far: an owner has a lower number
-unfoldable pub ownsN : ℕ → (ℕ → Option ℕ) → ℕ → ℕ → Bool
-ownsN zero owner x y = false
-ownsN (suc k) owner x y = on (owner y) (λ o. eqb o x || ownsN k owner x o)
+unfoldable pub owns_n : ℕ → (ℕ → Option ℕ) → ℕ → ℕ → Bool
+owns_n zero owner x y = false
+owns_n (suc k) owner x y = on (owner y) (λ o. eqb o x || owns_n k owner x o)
 
 abbrev pub owns : (ℕ → Option ℕ) → ℕ → ℕ → Bool
-owns owner x y = ownsN (suc y) owner x y
+owns owner x y = owns_n (suc y) owner x y
 
 -- all that x owns is gone
 abbrev pub stripped : Nodes → ℕ → Nodes
@@ -39,16 +39,16 @@ disposed g x = record { size = g.size; kind = g.kind; form = g.form; owner = g.o
 
 -- what the command itself does
 unfoldable pub changed : Command → Nodes → Nodes
-changed (makeSignal v) g = withNew g signal (constant (pos 0)) none
-changed (makeComputed cs) g = withNew g computed (formulaOf cs) none
-changed (makeEffect o cs) g = withNew g effect (formulaOf cs) (ownerOf o)
-changed (makeScope o) g = withNew g scope (constant (pos 0)) (ownerOf o)
+changed (make_signal v) g = with_new g signal (constant (pos 0)) none
+changed (make_computed cs) g = with_new g computed (formula_of cs) none
+changed (make_effect o cs) g = with_new g effect (formula_of cs) (owner_of o)
+changed (make_scope o) g = with_new g scope (constant (pos 0)) (owner_of o)
 changed (set_to n v) g = g
-changed (addTo n d) g = g
+changed (add_to n d) g = g
 changed (read_of n) g = g
-changed (disposeOf n) g = disposed g (nodeOf n)
-changed batchStart g = g
-changed batchEnd g = g
+changed (dispose_of n) g = disposed g (node_of n)
+changed batch_start g = g
+changed batch_end g = g
 
 -- and its runs, in their order: a run makes all gone that its effect owned
 unfoldable pub ran : Nodes → List Row → Nodes

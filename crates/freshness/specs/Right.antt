@@ -6,9 +6,9 @@ use Rattle.values.specs.Values.{value}
 use Rattle.trees.specs.Trees.{Tree, worth}
 use Rattle.meaning.specs.State.{St, effect, signal, Room, capacities, Row, readable, nothing}
 use Rattle.meaning.specs.WellFormed.{WellFormed}
-use Rattle.meaning.specs.Words.{Command, makeSignal, makeComputed, makeEffect, makeScope, set_to, addTo, read_of, disposeOf, batchStart, batchEnd, commandOf, nodeOf}
+use Rattle.meaning.specs.Words.{Command, make_signal, make_computed, make_effect, make_scope, set_to, add_to, read_of, dispose_of, batch_start, batch_end, command_of, node_of}
 use Rattle.meaning.specs.Outcome.{flushes as flushesAt}
-use Rattle.freshness.specs.Afresh.{afreshOf, readings, Among, Differs}
+use Rattle.freshness.specs.Afresh.{afresh_of, readings, Among, Differs}
 use Rattle.freshness.specs.Nodes.{Nodes, stripped, changed}
 use Rattle.freshness.specs.History.{Call, Reply, seen, Engine, meant, Past, told, now, after, begin}
 
@@ -55,43 +55,43 @@ abbrev pub closes : Past → Command → Bool
 closes p k = flushes p k && p.writes
 
 -- the fresh values after it
-abbrev pub valuesNow : Past → ℕ → Value
-valuesNow p = afreshOf p.nodes.kind p.nodes.form p.last
+abbrev pub values_now : Past → ℕ → Value
+values_now p = afresh_of p.nodes.kind p.nodes.form p.last
 
 -- the value returned: a new node's number, what is read, or 0; size: before it; fresh: the fresh values after it
 abbrev pub returned : ℕ → (ℕ → Value) → Command → Value
-returned size fresh (makeSignal v) = value (pos size)
-returned size fresh (makeComputed cs) = value (pos size)
-returned size fresh (makeEffect o cs) = value (pos size)
-returned size fresh (makeScope o) = value (pos size)
+returned size fresh (make_signal v) = value (pos size)
+returned size fresh (make_computed cs) = value (pos size)
+returned size fresh (make_effect o cs) = value (pos size)
+returned size fresh (make_scope o) = value (pos size)
 returned size fresh (set_to n v) = nothing
-returned size fresh (addTo n d) = nothing
-returned size fresh (read_of n) = fresh (nodeOf n)
-returned size fresh (disposeOf n) = nothing
-returned size fresh batchStart = nothing
-returned size fresh batchEnd = nothing
+returned size fresh (add_to n d) = nothing
+returned size fresh (read_of n) = fresh (node_of n)
+returned size fresh (dispose_of n) = nothing
+returned size fresh batch_start = nothing
+returned size fresh batch_end = nothing
 
 -- of an accepted command k with the reply a; p: before it; q: after it
 pub record RightRuns (p : Past) (k : Command) (a : Reply) (q : Past) : Type 0 where
   -- 1: reads and rows are fresh
-  pub value : a.val ≡ returned p.nodes.size (valuesNow q) k
-  pub rows : FreshRows q.nodes.form (valuesNow q) a.rows
+  pub value : a.val ≡ returned p.nodes.size (values_now q) k
+  pub rows : FreshRows q.nodes.form (values_now q) a.rows
   -- 2: no effect runs twice; what runs is live; a new effect runs at once; nothing else runs but in a flush
   pub once : NoTwo a.rows
   pub live : LiveRows (changed k p.nodes) a.rows
-  pub made : (o : ℤ) (cs : List ℤ) → k ≡ makeEffect o cs → (r : Row) × (r.who ≡ p.nodes.size) × (a.rows ≡ r ∷ [])
-  pub none-else : ((o : ℤ) (cs : List ℤ) → k ≡ makeEffect o cs → ⊥) → flushes p k ≡ false → a.rows ≡ []
+  pub made : (o : ℤ) (cs : List ℤ) → k ≡ make_effect o cs → (r : Row) × (r.who ≡ p.nodes.size) × (a.rows ≡ r ∷ [])
+  pub none_else : ((o : ℤ) (cs : List ℤ) → k ≡ make_effect o cs → ⊥) → flushes p k ≡ false → a.rows ≡ []
   -- 3: what runs are the effects that read something in their last run that now has another value
-  pub exactly : closes p k ≡ true → Run (λ e. Differs (p.reads e) (valuesNow q)) q.nodes a.rows
+  pub exactly : closes p k ≡ true → Run (λ e. Differs (p.reads e) (values_now q)) q.nodes a.rows
   -- 4: in any flush also those of which something was found stale since the batch began
-  pub runs : flushes p k ≡ true → Run (λ e. (p.found e ≡ true) ⊎ Differs (p.reads e) (valuesNow q)) q.nodes a.rows
+  pub runs : flushes p k ≡ true → Run (λ e. (p.found e ≡ true) ⊎ Differs (p.reads e) (values_now q)) q.nodes a.rows
 
 -- an engine is judged by its replies: no state is asked for it
 pub record Right (p : Past) (c : Call) (a : Reply) (q : Past) : Type 0 where
   pub code : a.code ≡ (meant p.ours c).code  -- document 01's refusals
   -- and its order. The demand's own words fix who runs among the effects that are live after a flush; who runs among those that go in it, and the order, hang on the queue, which demand 2 fixes
   pub order : SameRuns a.rows (meant p.ours c).rows
-  pub accepted : (k : Command) → commandOf c.words ≡ some k → a.code ≡ 0 → RightRuns p k a q
+  pub accepted : (k : Command) → command_of c.words ≡ some k → a.code ≡ 0 → RightRuns p k a q
   pub refused : (a.code ≡ 0 → ⊥) → (a.val ≡ nothing) × (a.rows ≡ [])
 
 -- replies to calls, whoever gave them: each is right after those before it, so long as there were fewer than 2 ^ 64 evaluations

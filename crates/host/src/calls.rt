@@ -2,7 +2,7 @@
 ghost use Rattle.std.specs.Prelude.{◌≡◌};
 ghost use Rattle.operating.specs.Emptying.{emptied, emptying};
 ghost use Rattle.hosting.specs.Calls.{replied, called, call_in};
-ghost use Rattle.hosting.specs.Many.{whyNumber, manyReplied, calledMany, callsIn};
+ghost use Rattle.hosting.specs.Many.{why_number, many_replied, called_many, calls_in};
 
 use engine::command::command;
 use operations::emptying::empty;
@@ -67,7 +67,7 @@ pub extern "C" fn simmer_command(
 
 // A series that stopped, as a number.
 fn why_number(why: Why) -> u64
-    ensures { result ≡ whyNumber why }
+    ensures { result ≡ why_number why }
 {
     match why {
         Why::Over => 0,
@@ -79,7 +79,7 @@ fn why_number(why: Why) -> u64
 
 // The first four words of a reply that has them.
 fn put_many(reply: &mut [i64], why: u64, used: u64, done: u64, rows: u64)
-    ensures { reply.new ≡ manyReplied reply.old why used done rows }
+    ensures { reply.new ≡ many_replied reply.old why used done rows }
 {
     if reply.len() < REPLY {
         return;
@@ -106,7 +106,7 @@ pub extern "C" fn simmer_commands(
     answers: &mut [i64],
     reply: &mut [i64],
 ) -> u64
-    ensures { calledMany result nodes.new links.new values.new cells.new rows.new answers.new reply.new ≡ callsIn nodes.old links.old values.old cells.old rows.old list.now answers.old reply.old }
+    ensures { called_many result nodes.new links.new values.new cells.new rows.new answers.new reply.new ≡ calls_in nodes.old links.old values.old cells.old rows.old list.now answers.old reply.old }
 {
     if reply.len() < REPLY {
         return NO_REPLY;

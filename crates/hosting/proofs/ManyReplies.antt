@@ -5,28 +5,28 @@ use Prim.Native.Nat.{ℕ, ◌<◌, ◌≤◌}
 use lib.IntN.{ℤ}
 use lib.ListN.{length, set}
 use borrow.Author.Tests.{le-leb, lt-leb}
-use Rattle.operating.specs.Log.{numberWord}
+use Rattle.operating.specs.Log.{number_word}
 use Rattle.sequencing.specs.declared.steps.Why.{Why}
 use Rattle.sequencing.specs.declared.steps.Why.TheVariants as why
-use Rattle.sequencing.specs.Series.{Ended, seriesIn}
-use Rattle.hosting.specs.Calls.{replyWords, noReply}
-use Rattle.hosting.specs.Many.{calledMany, whyNumber, manyReplied, endedIn, callsIn}
+use Rattle.sequencing.specs.Series.{Ended, series_in}
+use Rattle.hosting.specs.Calls.{reply_words, no_reply}
+use Rattle.hosting.specs.Many.{called_many, why_number, many_replied, ended_in, calls_in}
 
 module _ (y : List ℤ) (why used done rows : ℕ) where
-  pub no-reply : length y < replyWords → y ≡ manyReplied y why used done rows
-  unfolding manyReplied
-  no-reply h = rw (lt-leb _ _ h, manyReplied)
+  pub without_reply : length y < reply_words → y ≡ many_replied y why used done rows
+  unfolding many_replied
+  without_reply h = rw (lt-leb _ _ h, many_replied)
 
-  pub many-reply : replyWords ≤ length y → set (set (set (set y 0 (numberWord why)) 1 (numberWord used)) 2 (numberWord done)) 3 (numberWord rows) ≡ manyReplied y why used done rows
-  unfolding manyReplied
-  many-reply h = rw (le-leb _ _ h, manyReplied)
+  pub many_reply : reply_words ≤ length y → set (set (set (set y 0 (number_word why)) 1 (number_word used)) 2 (number_word done)) 3 (number_word rows) ≡ many_replied y why used done rows
+  unfolding many_replied
+  many_reply h = rw (le-leb _ _ h, many_replied)
 
 module _ (n l : List ℕ) (v c rows list answers y : List ℤ) where
-  pub not_done : length y < replyWords → calledMany noReply n l v c rows answers y ≡ callsIn n l v c rows list answers y
-  unfolding callsIn
-  not_done h = rw (lt-leb _ _ h, callsIn)
+  pub not_done : length y < reply_words → called_many no_reply n l v c rows answers y ≡ calls_in n l v c rows list answers y
+  unfolding calls_in
+  not_done h = rw (lt-leb _ _ h, calls_in)
 
   -- the series ended so, and that is put into the reply
-  pub calls-done : (e : Ended) → replyWords ≤ length y → e ≡ seriesIn n l v c rows list answers → endedIn y e ≡ callsIn n l v c rows list answers y
-  unfolding callsIn
-  calls-done e h q = ap (endedIn y) q ∙ rw (le-leb _ _ h, callsIn)
+  pub calls_done : (e : Ended) → reply_words ≤ length y → e ≡ series_in n l v c rows list answers → ended_in y e ≡ calls_in n l v c rows list answers y
+  unfolding calls_in
+  calls_done e h q = ap (ended_in y) q ∙ rw (le-leb _ _ h, calls_in)

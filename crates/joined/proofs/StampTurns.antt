@@ -13,34 +13,34 @@ use Rattle.trees.specs.declared.cells.Number.TheVariants.{Is, None}
 use Rattle.trees.specs.Cells.{name_of, cell_at, or_else}
 use Rattle.trees.specs.Names.{named}
 use Rattle.trees.proofs.CellLaws.{cell_out}
-use Rattle.trees.specs.Legal.{readableIn}
+use Rattle.trees.specs.Legal.{readable_in}
 use Rattle.lists.specs.Once.{stamp}
 use Rattle.lists.proofs.SumLaws.{bit_le}
-use Rattle.resting.specs.Depends.{readsKind}
-use Rattle.counting.specs.Counts.{countedIn, slotRoom}
-use Rattle.resting.specs.Named.{isReadLink, names_of, stampCell, stampCells, stampNode, linksStamped, namedFrom}
+use Rattle.resting.specs.Depends.{reads_kind}
+use Rattle.counting.specs.Counts.{counted_in, slot_room}
+use Rattle.resting.specs.Named.{is_read_link, names_of, stamp_cell, stamp_cells, stamp_node, links_stamped, named_from}
 
-pub read-most : (t l : List ℕ) (x r : ℕ) → r ≡ isReadLink t l x → r ≤ 1
-unfolding isReadLink
-read-most t l x r e = omega (arith, e, bit_le (readableIn t (field 8 l x 1)))
+pub read_most : (t l : List ℕ) (x r : ℕ) → r ≡ is_read_link t l x → r ≤ 1
+unfolding is_read_link
+read_most t l x r e = omega (arith, e, bit_le (readable_in t (field 8 l x 1)))
 
 module _ (c : List ℤ) (s : List ℕ) (v i : ℕ) where
-  pub cell-none : {r : Number} → r ≡ name_of (cell_at c i) → r ≡ None → s ≡ stampCell c s v i
-  unfolding stampCell named stamp
-  cell-none e f = rw (sym e ∙ f)
+  pub cell_none : {r : Number} → r ≡ name_of (cell_at c i) → r ≡ None → s ≡ stamp_cell c s v i
+  unfolding stamp_cell named stamp
+  cell_none e f = rw (sym e ∙ f)
 
-  pub cell-some : (u : List ℕ) (m : ℕ) {r : Number} → r ≡ name_of (cell_at c i) → r ≡ Is m → u ≡ set s m v → u ≡ stampCell c s v i
-  unfolding stampCell named stamp
-  cell-some u m e f g = rw (sym e ∙ f) g
+  pub cell_some : (u : List ℕ) (m : ℕ) {r : Number} → r ≡ name_of (cell_at c i) → r ≡ Is m → u ≡ set s m v → u ≡ stamp_cell c s v i
+  unfolding stamp_cell named stamp
+  cell_some u m e f g = rw (sym e ∙ f) g
 
-  pub cells-none : (k : ℕ) → k ≡ 0 → stampCells c s v i k ≡ s
-  unfolding stampCells named stamp
-  cells-none k e = rw e
+  pub cells_none : (k : ℕ) → k ≡ 0 → stamp_cells c s v i k ≡ s
+  unfolding stamp_cells named stamp
+  cells_none k e = rw e
 
-  pub cells-turn : (u : List ℕ) (k : ℕ) → (k ≡ 0 → ⊥) → u ≡ stampCell c s v i → stampCells c s v i k ≡ stampCells c u v (i + 1) (k - 1)
-  unfolding stampCells stampCell named stamp
-  cells-turn u zero h e = absurd (h refl)
-  cells-turn u (suc k) h e =
+  pub cells_turn : (u : List ℕ) (k : ℕ) → (k ≡ 0 → ⊥) → u ≡ stamp_cell c s v i → stamp_cells c s v i k ≡ stamp_cells c u v (i + 1) (k - 1)
+  unfolding stamp_cells stamp_cell named stamp
+  cells_turn u zero h e = absurd (h refl)
+  cells_turn u (suc k) h e =
       let z : suc k - 1 ≡ k = omega arith in
       rw (e, z, add-one) (at (name_of (cell_at c i)) (named c k (suc i)))
     where
@@ -54,37 +54,37 @@ unfolding named name_of
 past c zero i h = refl
 past c (suc k) i h = rw (← cell_out c i h) (past c k (suc i) (omega arith))
 
-pub cells-past : (c : List ℤ) (s : List ℕ) (v i k : ℕ) → length c / 2 ≤ i → stampCells c s v i k ≡ s
-unfolding stampCells stamp
-cells-past c s v i k h = ap (stamp s v) (past c k i h)
+pub cells_past : (c : List ℤ) (s : List ℕ) (v i k : ℕ) → length c / 2 ≤ i → stamp_cells c s v i k ≡ s
+unfolding stamp_cells stamp
+cells_past c s v i k h = ap (stamp s v) (past c k i h)
 
 module _ (t : List ℕ) (c : List ℤ) (s : List ℕ) (n v : ℕ) where
-  pub node-stamped : (u : List ℕ) (start k : ℕ) → start ≡ field 16 t n 7 → k ≡ field 16 t n 8 → readsKind (field 16 t n 1) ≡ true → u ≡ stampCells c s v start k → u ≡ stampNode t c s n v
-  unfolding stampNode names_of stampCells
-  node-stamped u start k a b e g = rw (e, names_of) (rw (← a, ← b) g)
+  pub node_stamped : (u : List ℕ) (start k : ℕ) → start ≡ field 16 t n 7 → k ≡ field 16 t n 8 → reads_kind (field 16 t n 1) ≡ true → u ≡ stamp_cells c s v start k → u ≡ stamp_node t c s n v
+  unfolding stamp_node names_of stamp_cells
+  node_stamped u start k a b e g = rw (e, names_of) (rw (← a, ← b) g)
 
-  pub node-plain : readsKind (field 16 t n 1) ≡ false → s ≡ stampNode t c s n v
-  unfolding stampNode names_of stamp
-  node-plain e = rw (e, names_of)
+  pub node_plain : reads_kind (field 16 t n 1) ≡ false → s ≡ stamp_node t c s n v
+  unfolding stamp_node names_of stamp
+  node_plain e = rw (e, names_of)
 
 module _ (t l : List ℕ) (c : List ℤ) (s : List ℕ) (n : ℕ) where
-  pub named_end : (k : ℕ) → k ≤ 0 → namedFrom t l c s n k ≡ true
-  unfolding namedFrom
+  pub named_end : (k : ℕ) → k ≤ 0 → named_from t l c s n k ≡ true
+  unfolding named_from
   named_end zero h = refl
   named_end (suc k) h = absurd (omega arith)
 
-  pub named-bad : (u : List ℕ) (w k : ℕ) → 0 < k → u ≡ stampNode t c s n (n + 1) → w ≡ field 16 t n 3 → linksStamped t l u (n + 1) (slotRoom l) w ≡ false → namedFrom t l c s n k ≡ false
-  unfolding namedFrom
-  named-bad u w zero h a b e = absurd (omega arith)
-  named-bad u w (suc k) h a b e = rw (rw (a, b, add-one) at e, namedFrom)
+  pub named_bad : (u : List ℕ) (w k : ℕ) → 0 < k → u ≡ stamp_node t c s n (n + 1) → w ≡ field 16 t n 3 → links_stamped t l u (n + 1) (slot_room l) w ≡ false → named_from t l c s n k ≡ false
+  unfolding named_from
+  named_bad u w zero h a b e = absurd (omega arith)
+  named_bad u w (suc k) h a b e = rw (rw (a, b, add-one) at e, named_from)
 
-  pub named_more : (u : List ℕ) (w k k' : ℕ) → 0 < k → u ≡ stampNode t c s n (n + 1) → w ≡ field 16 t n 3 → linksStamped t l u (n + 1) (slotRoom l) w ≡ true → k' ≡ k - 1
-      → namedFrom t l c s n k ≡ namedFrom t l c u (n + 1) k'
-  unfolding namedFrom
+  pub named_more : (u : List ℕ) (w k k' : ℕ) → 0 < k → u ≡ stamp_node t c s n (n + 1) → w ≡ field 16 t n 3 → links_stamped t l u (n + 1) (slot_room l) w ≡ true → k' ≡ k - 1
+      → named_from t l c s n k ≡ named_from t l c u (n + 1) k'
+  unfolding named_from
   named_more u w zero k' h a b e q = absurd (omega arith)
   named_more u w (suc k) k' h a b e q =
       let o : k' ≡ k = omega (arith, q) in
-      rw (o, a, add-one) (rw (rw (a, b, add-one) at e, namedFrom))
+      rw (o, a, add-one) (rw (rw (a, b, add-one) at e, named_from))
 
-pub named_start : (t l : List ℕ) (c : List ℤ) (s : List ℕ) (n : ℕ) → n ≡ countedIn t → namedFrom t l c s 0 (countedIn t) ≡ namedFrom t l c s 0 (n - 0)
-named_start t l c s n e = let z : n - 0 ≡ countedIn t = omega (arith, e) in rw z
+pub named_start : (t l : List ℕ) (c : List ℤ) (s : List ℕ) (n : ℕ) → n ≡ counted_in t → named_from t l c s 0 (counted_in t) ≡ named_from t l c s 0 (n - 0)
+named_start t l c s n e = let z : n - 0 ≡ counted_in t = omega (arith, e) in rw z

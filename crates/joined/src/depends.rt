@@ -1,6 +1,6 @@
 // What depends on what, and the link of what is owned.
 ghost use Rattle.std.specs.Prelude.{◌≡◌};
-ghost use Rattle.resting.specs.Depends.{readsKind, ownsKind, ownerIs, mayDepend, dependsOn, dependsAt, ownedOn, ownedAt};
+ghost use Rattle.resting.specs.Depends.{reads_kind, owns_kind, owner_is, may_depend, depends_on, depends_at, owned_on, owned_at};
 
 use counts::room;
 use formula::legal;
@@ -13,7 +13,7 @@ use primitive::{slots, words};
 
 // Kinds that read: they have a formula.
 pub fn reads_kind(kind: u64) -> bool
-    ensures { result ≡ readsKind kind }
+    ensures { result ≡ reads_kind kind }
 {
     if kind == COMPUTED {
         return true;
@@ -22,7 +22,7 @@ pub fn reads_kind(kind: u64) -> bool
 }
 
 fn owns_kind(kind: u64) -> bool
-    ensures { result ≡ ownsKind kind }
+    ensures { result ≡ owns_kind kind }
 {
     if kind == EFFECT {
         return true;
@@ -32,7 +32,7 @@ fn owns_kind(kind: u64) -> bool
 
 // Whether an owner's word names node n.
 fn owner_is(w: u64, n: u64) -> bool
-    ensures { result ≡ ownerIs w n }
+    ensures { result ≡ owner_is w n }
 {
     let Slot::At(o) = slots::open(w) else {
         return false;
@@ -42,7 +42,7 @@ fn owner_is(w: u64, n: u64) -> bool
 
 // Whether node n may depend on node d. A node's rank is its number.
 fn may_depend(nodes: &[u64], n: u64, d: u64) -> bool
-    ensures { result ≡ mayDepend nodes.now n d }
+    ensures { result ≡ may_depend nodes.now n d }
 {
     let kind = words::get(nodes, NODE, n, KIND);
     let owner = words::get(nodes, NODE, d, OWNER);
@@ -60,7 +60,7 @@ fn may_depend(nodes: &[u64], n: u64, d: u64) -> bool
 
 // The same of each link from the word w on, at most so many.
 fn depends_on(nodes: &[u64], links: &[u64], n: u64, budget: u64, w: u64) -> bool
-    ensures { result ≡ dependsOn nodes.now links.now n budget w }
+    ensures { result ≡ depends_on nodes.now links.now n budget w }
 {
     let mut left = budget;
     let mut at = w;
@@ -79,7 +79,7 @@ fn depends_on(nodes: &[u64], links: &[u64], n: u64, budget: u64, w: u64) -> bool
 }
 
 pub fn depends_at(nodes: &[u64], links: &[u64], n: u64) -> bool
-    ensures { result ≡ dependsAt nodes.now links.now n }
+    ensures { result ≡ depends_at nodes.now links.now n }
 {
     let w = words::get(nodes, NODE, n, DEPS);
     depends_on(nodes, links, n, room::slot_room(links), w)
@@ -87,7 +87,7 @@ pub fn depends_at(nodes: &[u64], links: &[u64], n: u64) -> bool
 
 // Whether the subscriber list with this head is one link to the owner; without an owner, no link.
 fn owned_on(links: &[u64], owner: u64, subs: u64) -> bool
-    ensures { result ≡ ownedOn links.now owner subs }
+    ensures { result ≡ owned_on links.now owner subs }
 {
     let Slot::At(o) = slots::open(owner) else {
         return subs == 0;
@@ -103,7 +103,7 @@ fn owned_on(links: &[u64], owner: u64, subs: u64) -> bool
 
 // Whether node n, if it is an effect or scope, has the subscriber link that its owner asks for and no other, and no link at all if it is gone.
 pub fn owned_at(nodes: &[u64], links: &[u64], n: u64) -> bool
-    ensures { result ≡ ownedAt nodes.now links.now n }
+    ensures { result ≡ owned_at nodes.now links.now n }
 {
     let owner = words::get(nodes, NODE, n, OWNER);
     let subs = words::get(nodes, NODE, n, SUBS);

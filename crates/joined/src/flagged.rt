@@ -1,11 +1,11 @@
 // The flags that a node may have at rest, by kind. deps and subs are the heads of its lists, reads the number of its read links.
 ghost use Rattle.std.specs.Prelude.{◌≡◌};
-ghost use Rattle.resting.specs.Flagged.{signalFlags, computedFlags, effectFlags, goneFlags, flagsOn};
+ghost use Rattle.resting.specs.Flagged.{signal_flags, computed_flags, effect_flags, gone_flags, flags_on};
 
 use primitive::rows::{COMPUTED, EFFECT, SCOPE, SIGNAL};
 
 fn signal_flags(flags: u64) -> bool
-    ensures { result ≡ signalFlags flags }
+    ensures { result ≡ signal_flags flags }
 {
     if flags == 1 {
         return true;
@@ -14,7 +14,7 @@ fn signal_flags(flags: u64) -> bool
 }
 
 fn computed_flags(flags: u64, deps: u64, subs: u64) -> bool
-    ensures { result ≡ computedFlags flags deps subs }
+    ensures { result ≡ computed_flags flags deps subs }
 {
     if flags == 0 {
         if deps != 0 {
@@ -38,7 +38,7 @@ fn computed_flags(flags: u64, deps: u64, subs: u64) -> bool
 }
 
 fn effect_flags(flags: u64, reads: u64) -> bool
-    ensures { result ≡ effectFlags flags reads }
+    ensures { result ≡ effect_flags flags reads }
 {
     if flags == 2 {
         return true;
@@ -56,7 +56,7 @@ fn effect_flags(flags: u64, reads: u64) -> bool
 }
 
 fn gone_flags(flags: u64) -> bool
-    ensures { result ≡ goneFlags flags }
+    ensures { result ≡ gone_flags flags }
 {
     if flags == 0 {
         return true;
@@ -65,7 +65,7 @@ fn gone_flags(flags: u64) -> bool
 }
 
 pub fn flags_on(kind: u64, gone: u64, flags: u64, deps: u64, subs: u64, reads: u64) -> bool
-    ensures { result ≡ flagsOn kind gone flags deps subs reads }
+    ensures { result ≡ flags_on kind gone flags deps subs reads }
 {
     if kind == SIGNAL {
         return signal_flags(flags);

@@ -7,7 +7,7 @@ mod named;
 mod queued;
 
 ghost use Rattle.std.specs.Prelude.{◌≡◌};
-ghost use Rattle.resting.specs.Joined.{flaggedAt, restsAt, restIn, joinedIn};
+ghost use Rattle.resting.specs.Joined.{flagged_at, rests_at, rest_in, joined_in};
 
 use counts::room;
 use primitive::rows::{DEPS, FLAGS, GONE, KIND, NODE, READS, SUBS};
@@ -15,7 +15,7 @@ use primitive::words;
 
 // Whether node n has no more read links than read cells, and flags that its kind may have at rest.
 fn flagged_at(nodes: &[u64], links: &[u64], n: u64) -> bool
-    ensures { result ≡ flaggedAt nodes.now links.now n }
+    ensures { result ≡ flagged_at nodes.now links.now n }
 {
     let kind = words::get(nodes, NODE, n, KIND);
     let gone = words::get(nodes, NODE, n, GONE);
@@ -32,7 +32,7 @@ fn flagged_at(nodes: &[u64], links: &[u64], n: u64) -> bool
 
 // What is asked of node n alone.
 fn rests_at(nodes: &[u64], links: &[u64], n: u64) -> bool
-    ensures { result ≡ restsAt nodes.now links.now n }
+    ensures { result ≡ rests_at nodes.now links.now n }
 {
     if !depends::depends_at(nodes, links, n) {
         return false;
@@ -44,7 +44,7 @@ fn rests_at(nodes: &[u64], links: &[u64], n: u64) -> bool
 }
 
 fn rest(nodes: &[u64], links: &[u64]) -> bool
-    ensures { result ≡ restIn nodes.now links.now }
+    ensures { result ≡ rest_in nodes.now links.now }
 {
     let mut n = room::counted(nodes);
     while 0 < n {
@@ -57,7 +57,7 @@ fn rest(nodes: &[u64], links: &[u64]) -> bool
 }
 
 pub fn joined(nodes: &[u64], links: &[u64], cells: &[i64]) -> bool
-    ensures { result ≡ joinedIn nodes.now links.now cells.now }
+    ensures { result ≡ joined_in nodes.now links.now cells.now }
 {
     if !linked::linked(nodes, links) {
         return false;

@@ -1,6 +1,6 @@
 // Every slot is free, once on the free list, or live, once in each of its two lists. No memory: the walks share a budget of slots, and what they leave of it tells.
 ghost use Rattle.std.specs.Prelude.{◌≡◌};
-ghost use Rattle.resting.specs.Linked.{isLive, fits, spare, walk, walks, frees, linkedIn};
+ghost use Rattle.resting.specs.Linked.{is_live_slot, fits, spare, walk, walks, frees, linked_in};
 
 use counts::room;
 use lists::Rest;
@@ -12,7 +12,7 @@ use primitive::words;
 use resting::linked::Side;
 
 fn is_live(links: &[u64], x: u64) -> bool
-    ensures { result ≡ isLive links.now x }
+    ensures { result ≡ is_live_slot links.now x }
 {
     words::get(links, LINK, x, LIVE) != 0
 }
@@ -105,7 +105,7 @@ fn frees(links: &[u64], budget: u64, w: u64) -> Rest
 
 // The subscriber lists leave some slots, the dependency lists as many, and these are just the free ones.
 pub fn linked(nodes: &[u64], links: &[u64]) -> bool
-    ensures { result ≡ linkedIn nodes.now links.now }
+    ensures { result ≡ linked_in nodes.now links.now }
 {
     let subscribers = Side {
         own: DEP,

@@ -1,7 +1,7 @@
 // The read links of a node: how many they are, and that they go only to nodes that its read cells name.
 ghost use Rattle.std.specs.Prelude.{◌≡◌};
-ghost use Rattle.counting.specs.Counts.{countedIn};
-ghost use Rattle.resting.specs.Named.{isReadLink, readsFrom, stampCell, stampCells, stampNode, stamped, linksStamped, namedFrom, named_in};
+ghost use Rattle.counting.specs.Counts.{counted_in};
+ghost use Rattle.resting.specs.Named.{is_read_link, reads_from, stamp_cell, stamp_cells, stamp_node, stamped, links_stamped, named_from, named_in};
 
 use crate::depends;
 use counts::room;
@@ -17,7 +17,7 @@ pub const SEEN: usize = 1024;
 
 // 1 for a link to what can be read, 0 for another.
 fn is_read_link(nodes: &[u64], links: &[u64], x: u64) -> u64
-    ensures { result ≡ isReadLink nodes.now links.now x }
+    ensures { result ≡ is_read_link nodes.now links.now x }
 {
     let d = words::get(links, LINK, x, DEP);
     if legal::readable(nodes, d) {
@@ -28,7 +28,7 @@ fn is_read_link(nodes: &[u64], links: &[u64], x: u64) -> u64
 
 // The read links of the dependency list from the word w.
 pub fn read_links(nodes: &[u64], links: &[u64], w: u64) -> u64
-    ensures { result ≡ readsFrom nodes.now links.now w }
+    ensures { result ≡ reads_from nodes.now links.now w }
 {
     let slots = room::slot_room(links);
     let mut left = slots;
@@ -46,7 +46,7 @@ pub fn read_links(nodes: &[u64], links: &[u64], w: u64) -> u64
 }
 
 fn stamp_cell(cells: &[i64], seen: &mut [u64], v: u64, i: u64)
-    ensures { seen.new ≡ stampCell cells.now seen.old v i }
+    ensures { seen.new ≡ stamp_cell cells.now seen.old v i }
 {
     let Number::Is(m) = name(cell_at(cells, i)) else {
         return;
@@ -56,7 +56,7 @@ fn stamp_cell(cells: &[i64], seen: &mut [u64], v: u64, i: u64)
 
 // What the n cells from start on name has the stamp v. Past the end no cell names anything.
 fn stamp_cells(cells: &[i64], seen: &mut [u64], v: u64, start: u64, n: u64)
-    ensures { seen.new ≡ stampCells cells.now seen.old v start n }
+    ensures { seen.new ≡ stamp_cells cells.now seen.old v start n }
 {
     let end = (cells.len() / 2) as u64;
     let mut i = start;
@@ -73,7 +73,7 @@ fn stamp_cells(cells: &[i64], seen: &mut [u64], v: u64, start: u64, n: u64)
 
 // The same of the formula of node n, if it has one.
 fn stamp_node(nodes: &[u64], cells: &[i64], seen: &mut [u64], n: u64, v: u64)
-    ensures { seen.new ≡ stampNode nodes.now cells.now seen.old n v }
+    ensures { seen.new ≡ stamp_node nodes.now cells.now seen.old n v }
 {
     let start = words::get(nodes, NODE, n, START);
     let count = words::get(nodes, NODE, n, CELLS);
@@ -94,7 +94,7 @@ fn stamped(nodes: &[u64], seen: &[u64], v: u64, d: u64) -> bool
 
 // The same of each link from the word w on, at most so many.
 fn links_stamped(nodes: &[u64], links: &[u64], seen: &[u64], v: u64, budget: u64, w: u64) -> bool
-    ensures { result ≡ linksStamped nodes.now links.now seen.now v budget w }
+    ensures { result ≡ links_stamped nodes.now links.now seen.now v budget w }
 {
     let mut left = budget;
     let mut at = w;
@@ -114,7 +114,7 @@ fn links_stamped(nodes: &[u64], links: &[u64], seen: &[u64], v: u64, budget: u64
 
 // Node n stamps n + 1, which is new, so that no stamp is ever cleared.
 fn all_named(nodes: &[u64], links: &[u64], cells: &[i64], seen: &mut [u64]) -> bool
-    ensures { result ≡ namedFrom nodes.now links.now cells.now seen.old 0 (countedIn nodes.now) }
+    ensures { result ≡ named_from nodes.now links.now cells.now seen.old 0 (counted_in nodes.now) }
 {
     let count = room::counted(nodes);
     let slots = room::slot_room(links);

@@ -2,9 +2,9 @@
 ghost use Rattle.std.specs.Prelude.{◌≡◌};
 ghost use Rattle.lists.specs.Sum.{bit, count};
 ghost use Rattle.lists.specs.Once.{spend};
-ghost use Rattle.queue.specs.Queue.{queueOf};
-ghost use Rattle.counting.specs.Counts.{countedIn};
-ghost use Rattle.resting.specs.Queued.{waitsOn, mayWait, lives, due, scanned, idle, queuedIn};
+ghost use Rattle.queue.specs.Queue.{queue_of};
+ghost use Rattle.counting.specs.Counts.{counted_in};
+ghost use Rattle.resting.specs.Queued.{waits_on, may_wait, lives, due, scanned, idle, queued_in};
 
 use crate::named::SEEN;
 use counts::room;
@@ -16,7 +16,7 @@ const MOST_DEPTH: u64 = 64;
 
 // Whether an effect is without WATCHING: the other flags of a live one are 0, 32 and 48, of a gone one 0.
 fn waits_on(gone: u64, flags: u64) -> bool
-    ensures { result ≡ waitsOn gone flags }
+    ensures { result ≡ waits_on gone flags }
 {
     if gone == 0 {
         return flags != 2;
@@ -26,7 +26,7 @@ fn waits_on(gone: u64, flags: u64) -> bool
 
 // Whether e may stand in the queue.
 fn may_wait(nodes: &[u64], e: u64) -> bool
-    ensures { result ≡ mayWait nodes.now e }
+    ensures { result ≡ may_wait nodes.now e }
 {
     if e >= room::counted(nodes) {
         return false;
@@ -60,7 +60,7 @@ fn pay(live: bool, budget: u64) -> Rest
 
 // The entries in order, each marked as it is met, the live ones taken off the budget.
 fn scan(nodes: &[u64], seen: &mut [u64], budget: u64) -> Rest
-    ensures { result ≡ scanned nodes.now seen.old (queueOf nodes.now) budget }
+    ensures { result ≡ scanned nodes.now seen.old (queue_of nodes.now) budget }
 {
     let n = queue::length(nodes);
     let mut left = budget;
@@ -98,7 +98,7 @@ fn due(nodes: &[u64], e: u64) -> u64
 }
 
 fn count_due(nodes: &[u64]) -> u64
-    ensures { result ≡ count (due nodes.now) (countedIn nodes.now) }
+    ensures { result ≡ count (due nodes.now) (counted_in nodes.now) }
 {
     let mut n = room::counted(nodes);
     let mut c: u64 = 0;
@@ -119,7 +119,7 @@ fn idle(depth: u64, len: u64) -> bool
 }
 
 pub fn queued(nodes: &[u64]) -> bool
-    ensures { result ≡ queuedIn nodes.now }
+    ensures { result ≡ queued_in nodes.now }
 {
     let depth = words::at(nodes, DEPTH);
     let len = words::at(nodes, QUEUE);

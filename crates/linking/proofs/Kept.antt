@@ -8,14 +8,14 @@ use native.Mathlib.Omega.{arith}
 use Rattle.primitive.specs.Slots.{slot_of}
 use Rattle.primitive.specs.declared.slots.Slot.{Slot}
 use Rattle.primitive.specs.declared.slots.Slot.TheVariants.{At, Nothing}
-use Rattle.linking.specs.Free.{isLive, slots, released}
-use Rattle.linking.specs.Neighbours.{nextDep}
-use Rattle.linking.specs.Ring.{isOnly, isMutable, reset, retired, mended, cutOut, next_of, walked, purgedBy, disowned, disposedBy, droppedBy, unwatchedBy, unlinkedBy, unlinkedN, unlinked, unwatched, disposed, purged}
+use Rattle.linking.specs.Free.{is_live_slot, slots, released}
+use Rattle.linking.specs.Neighbours.{next_dep_of}
+use Rattle.linking.specs.Ring.{is_only, is_mutable, reset, retired, mended, cut_out, next_of, walked, purged_by, disowned, disposed_by, dropped_by, unwatched_by, unlinked_by, unlinked_n, unlinked, unwatched, disposed, purged}
 use Rattle.primitive.specs.Words.{FLAGS, GONE, DEPS-TAIL, DEPS, SUBS, SUBS-TAIL, SUB, DEP, PREV-SUB, NEXT-SUB, PREV-DEP, NEXT-DEP, node, link}
 use Rattle.linking.specs.Table.{Tab, tab}
-use Rattle.linking.proofs.FreeLaws.{live_in, released-freed, released-others, length-released, header-released}
-use Rattle.linking.proofs.RingLaws.{mended-marked}
-use Rattle.linking.proofs.Untouched.{Untouched, untouched-refl, then, by-node, by-links, by-beside}
+use Rattle.linking.proofs.FreeLaws.{live_in, released_freed, released_others, length_released, header_released}
+use Rattle.linking.proofs.RingLaws.{mended_marked}
+use Rattle.linking.proofs.Untouched.{Untouched, untouched_refl, then, by_node, by_links, by_beside}
 
 -- what each single step keeps
 pub record Kept (R : Tab → Tab → Type 0) : Type 0 where
@@ -23,7 +23,7 @@ pub record Kept (R : Tab → Tab → Type 0) : Type 0 where
   pub on : {a b c : Tab} → R a b → R b c → R a c
   pub drops : (t : Tab) (n : ℕ) → R t (tab (reset t.nodes n 17) t.links)
   pub goes : (t : Tab) (n : ℕ) → R t (tab (retired t.nodes n) t.links)
-  pub cuts : (t : Tab) (s sub : ℕ) → isLive t.links s ≡ true → R t (cutOut t s sub)
+  pub cuts : (t : Tab) (s sub : ℕ) → is_live_slot t.links s ≡ true → R t (cut_out t s sub)
 
 module _ (R : Tab → Tab → Type 0) (r : Kept R) where
   branch : (b : Bool) {t x y : Tab} → (b ≡ true → R t x) → (b ≡ false → R t y) → R t (elim b [ true ↦ x | false ↦ y ])
@@ -31,135 +31,135 @@ module _ (R : Tab → Tab → Type 0) (r : Kept R) where
   branch false p q = q refl
 
   module _ (u : Tab → ℕ → ℕ → Tab) (h : (t : Tab) (s sub : ℕ) → R t (u t s sub)) where
-    keeps-walked : (m : ℕ) (t : Tab) (d : Slot) (sub : ℕ) → R t (walked u m t d sub)
+    keeps_walked : (m : ℕ) (t : Tab) (d : Slot) (sub : ℕ) → R t (walked u m t d sub)
     unfolding walked
-    keeps-walked zero t d sub = r.id t
-    keeps-walked (suc m) t Nothing sub = r.id t
-    keeps-walked (suc m) t (At s) sub = r.on (h t s sub) (keeps-walked m (u t s sub) (next_of t.links s) sub)
+    keeps_walked zero t d sub = r.id t
+    keeps_walked (suc m) t Nothing sub = r.id t
+    keeps_walked (suc m) t (At s) sub = r.on (h t s sub) (keeps_walked m (u t s sub) (next_of t.links s) sub)
 
-    keeps-purged : (k : ℕ) (t : Tab) (sub : ℕ) → R t (purgedBy u k t sub)
-    unfolding purgedBy
-    keeps-purged k t sub = keeps-walked (suc k) t (slot_of (nextDep t sub (node t.nodes sub DEPS-TAIL))) sub
+    keeps_purged : (k : ℕ) (t : Tab) (sub : ℕ) → R t (purged_by u k t sub)
+    unfolding purged_by
+    keeps_purged k t sub = keeps_walked (suc k) t (slot_of (next_dep_of t sub (node t.nodes sub DEPS-TAIL))) sub
 
-    keeps-disposed : (k : ℕ) (t : Tab) (n : ℕ) → R t (disposedBy u k t n)
-    unfolding disposedBy
-    keeps-disposed k t n =
+    keeps_disposed : (k : ℕ) (t : Tab) (n : ℕ) → R t (disposed_by u k t n)
+    unfolding disposed_by
+    keeps_disposed k t n =
         let g = tab (retired t.nodes n) t.links in
-        let p = purgedBy u k g n in
-        r.on (r.on (r.goes t n) (keeps-purged k g n)) (last p (slot_of (node p.nodes n SUBS)))
+        let p = purged_by u k g n in
+        r.on (r.on (r.goes t n) (keeps_purged k g n)) (last p (slot_of (node p.nodes n SUBS)))
       where
         last : (p : Tab) (o : Slot) → R p (disowned u p o)
         last p Nothing = r.id p
         last p (At s) = h p s (link p.links s SUB)
 
-    keeps-unwatched : (k : ℕ) (t : Tab) (n : ℕ) → R t (unwatchedBy u k t n)
-    unfolding unwatchedBy
-    keeps-unwatched k t n =
-        branch (isMutable t.nodes n) (λ e. drop (slot_of (node t.nodes n DEPS-TAIL))) (λ e. keeps-disposed k t n)
+    keeps_unwatched : (k : ℕ) (t : Tab) (n : ℕ) → R t (unwatched_by u k t n)
+    unfolding unwatched_by
+    keeps_unwatched k t n =
+        branch (is_mutable t.nodes n) (λ e. drop (slot_of (node t.nodes n DEPS-TAIL))) (λ e. keeps_disposed k t n)
       where
-        drop : (o : Slot) → R t (droppedBy u k t n o)
+        drop : (o : Slot) → R t (dropped_by u k t n o)
         drop Nothing = r.id t
-        drop (At s) = r.on (r.drops t n) (keeps-purged k (tab (reset t.nodes n 17) t.links) n)
+        drop (At s) = r.on (r.drops t n) (keeps_purged k (tab (reset t.nodes n 17) t.links) n)
 
-  told : (k : ℕ) (t : Tab) (s sub : ℕ) → ((t : Tab) (s sub : ℕ) → R t (unlinkedN k t s sub))
-      → R (cutOut t s sub)
-      (elim (isOnly t.links s) [ true ↦ unwatchedBy (unlinkedN k) k (cutOut t s sub) (link t.links s DEP) | false ↦ cutOut t s sub ])
+  told : (k : ℕ) (t : Tab) (s sub : ℕ) → ((t : Tab) (s sub : ℕ) → R t (unlinked_n k t s sub))
+      → R (cut_out t s sub)
+      (elim (is_only t.links s) [ true ↦ unwatched_by (unlinked_n k) k (cut_out t s sub) (link t.links s DEP) | false ↦ cut_out t s sub ])
   told k t s sub h =
-      branch (isOnly t.links s) (λ f. keeps-unwatched (unlinkedN k) h k (cutOut t s sub) (link t.links s DEP)) (λ f. r.id (cutOut t s sub))
+      branch (is_only t.links s) (λ f. keeps_unwatched (unlinked_n k) h k (cut_out t s sub) (link t.links s DEP)) (λ f. r.id (cut_out t s sub))
 
-  pub keeps : (k : ℕ) (t : Tab) (s sub : ℕ) → R t (unlinkedN k t s sub)
-  unfolding unlinkedN unlinkedBy
+  pub keeps : (k : ℕ) (t : Tab) (s sub : ℕ) → R t (unlinked_n k t s sub)
+  unfolding unlinked_n unlinked_by
   keeps zero t s sub = r.id t
-  keeps (suc k) t s sub = branch (isLive t.links s) (λ e. r.on (r.cuts t s sub e) (told k t s sub (keeps k))) (λ e. r.id t)
+  keeps (suc k) t s sub = branch (is_live_slot t.links s) (λ e. r.on (r.cuts t s sub e) (told k t s sub (keeps k))) (λ e. r.id t)
 
   -- ---- the four that callers cite
-  pub kept-unlinked : (t : Tab) (s sub : ℕ) → R t (unlinked t s sub).tabs
+  pub kept_unlinked : (t : Tab) (s sub : ℕ) → R t (unlinked t s sub).tabs
   unfolding unlinked
-  kept-unlinked t s sub = keeps (slots t.links) t s sub
+  kept_unlinked t s sub = keeps (slots t.links) t s sub
 
-  pub kept-unwatched : (t : Tab) (n : ℕ) → R t (unwatched t n)
+  pub kept_unwatched : (t : Tab) (n : ℕ) → R t (unwatched t n)
   unfolding unwatched
-  kept-unwatched t n = keeps-unwatched (unlinkedN (slots t.links)) (keeps (slots t.links)) (slots t.links) t n
+  kept_unwatched t n = keeps_unwatched (unlinked_n (slots t.links)) (keeps (slots t.links)) (slots t.links) t n
 
-  pub kept-disposed : (t : Tab) (n : ℕ) → R t (disposed t n)
+  pub kept_disposed : (t : Tab) (n : ℕ) → R t (disposed t n)
   unfolding disposed
-  kept-disposed t n = keeps-disposed (unlinkedN (slots t.links)) (keeps (slots t.links)) (slots t.links) t n
+  kept_disposed t n = keeps_disposed (unlinked_n (slots t.links)) (keeps (slots t.links)) (slots t.links) t n
 
-  pub kept-purged : (t : Tab) (sub : ℕ) → R t (purged t sub)
+  pub kept_purged : (t : Tab) (sub : ℕ) → R t (purged t sub)
   unfolding purged
-  kept-purged t sub = keeps-purged (unlinkedN (slots t.links)) (keeps (slots t.links)) (slots t.links) t sub
+  kept_purged t sub = keeps_purged (unlinked_n (slots t.links)) (keeps (slots t.links)) (slots t.links) t sub
 
 -- ---- what the ring leaves alone
-reset-untouched : (t : Tab) (n f : ℕ) → Untouched t (tab (reset t.nodes n f) t.links)
+reset_untouched : (t : Tab) (n f : ℕ) → Untouched t (tab (reset t.nodes n f) t.links)
 unfolding reset
-reset-untouched t n f = then (by-node t n DEPS-TAIL 0 (omega arith) refl) (by-node _ n FLAGS f (omega arith) refl)
+reset_untouched t n f = then (by_node t n DEPS-TAIL 0 (omega arith) refl) (by_node _ n FLAGS f (omega arith) refl)
 
-retired-untouched : (t : Tab) (n : ℕ) → Untouched t (tab (retired t.nodes n) t.links)
+retired_untouched : (t : Tab) (n : ℕ) → Untouched t (tab (retired t.nodes n) t.links)
 unfolding retired
-retired-untouched t n = then (reset-untouched t n 0) (by-node _ n GONE _ (omega arith) refl)
+retired_untouched t n = then (reset_untouched t n 0) (by_node _ n GONE _ (omega arith) refl)
 
-mended-untouched : (t : Tab) (s sub : ℕ) → Untouched t (mended t s sub)
+mended_untouched : (t : Tab) (s sub : ℕ) → Untouched t (mended t s sub)
 unfolding mended
-mended-untouched t s sub =
+mended_untouched t s sub =
     then
-    (then (by-beside t _ PREV-DEP sub DEPS-TAIL _ (omega arith) refl) (by-beside _ _ NEXT-DEP sub DEPS _ (omega arith) refl))
-    (then (by-beside _ _ PREV-SUB _ SUBS-TAIL _ (omega arith) refl) (by-beside _ _ NEXT-SUB _ SUBS _ (omega arith) refl))
+    (then (by_beside t _ PREV-DEP sub DEPS-TAIL _ (omega arith) refl) (by_beside _ _ NEXT-DEP sub DEPS _ (omega arith) refl))
+    (then (by_beside _ _ PREV-SUB _ SUBS-TAIL _ (omega arith) refl) (by_beside _ _ NEXT-SUB _ SUBS _ (omega arith) refl))
 
-cut-untouched : (t : Tab) (s sub : ℕ) → Untouched t (cutOut t s sub)
-unfolding cutOut
-cut-untouched t s sub =
+cut_untouched : (t : Tab) (s sub : ℕ) → Untouched t (cut_out t s sub)
+unfolding cut_out
+cut_untouched t s sub =
     let m = mended t s sub in
-    then (mended-untouched t s sub) (by-links m (length-released m.links s) (header-released m.links s))
+    then (mended_untouched t s sub) (by_links m (length_released m.links s) (header_released m.links s))
 
-pub untouched-kept : Kept Untouched
-untouched-kept =
+pub untouched_kept : Kept Untouched
+untouched_kept =
     record {
-      id = untouched-refl;
+      id = untouched_refl;
       on = then;
-      drops = λ t n. reset-untouched t n 17;
-      goes = retired-untouched;
-      cuts = λ t s sub h. cut-untouched t s sub;
+      drops = λ t n. reset_untouched t n 17;
+      goes = retired_untouched;
+      cuts = λ t s sub h. cut_untouched t s sub;
     }
 
 -- ---- no link becomes live
 abbrev pub NoneLive : Tab → Tab → Type 0
-NoneLive t u = (i : ℕ) → isLive t.links i ≡ false → isLive u.links i ≡ false
+NoneLive t u = (i : ℕ) → is_live_slot t.links i ≡ false → is_live_slot u.links i ≡ false
 
-cut-freed : (t : Tab) (s sub : ℕ) → isLive (cutOut t s sub).links s ≡ false
-unfolding cutOut
-cut-freed t s sub = released-freed (mended t s sub).links s
+cut_freed : (t : Tab) (s sub : ℕ) → is_live_slot (cut_out t s sub).links s ≡ false
+unfolding cut_out
+cut_freed t s sub = released_freed (mended t s sub).links s
 
-cut-none : (t : Tab) (s sub : ℕ) → NoneLive t (cutOut t s sub)
-unfolding cutOut
-cut-none t s sub i d = go (ℕ_discrete i s)
+cut_none : (t : Tab) (s sub : ℕ) → NoneLive t (cut_out t s sub)
+unfolding cut_out
+cut_none t s sub i d = go (ℕ_discrete i s)
   where
-    go : Dec (i ≡ s) → isLive (released (mended t s sub).links s) i ≡ false
-    go (yes e) = ap (isLive (released (mended t s sub).links s)) e ∙ released-freed (mended t s sub).links s
-    go (no e) = released-others (mended t s sub).links s i e ∙ (mended-marked t s sub).marks i ∙ d
+    go : Dec (i ≡ s) → is_live_slot (released (mended t s sub).links s) i ≡ false
+    go (yes e) = ap (is_live_slot (released (mended t s sub).links s)) e ∙ released_freed (mended t s sub).links s
+    go (no e) = released_others (mended t s sub).links s i e ∙ (mended_marked t s sub).marks i ∙ d
 
-pub none-live-kept : Kept NoneLive
-none-live-kept =
+pub none_live_kept : Kept NoneLive
+none_live_kept =
     record {
       id = λ t i d. d;
       on = λ p q i d. q i (p i d);
       drops = λ t n i d. d;
       goes = λ t n i d. d;
-      cuts = λ t s sub h. cut-none t s sub;
+      cuts = λ t s sub h. cut_none t s sub;
     }
 
 -- ---- and a slot that is unlinked is not live
-freed : (t : Tab) (s sub k : ℕ) → isLive t.links s ≡ true → isLive (unlinkedN (suc k) t s sub).links s ≡ false
-unfolding unlinkedN unlinkedBy
-freed t s sub k h = rw (h, unlinkedBy) (told NoneLive none-live-kept k t s sub (keeps NoneLive none-live-kept k) s (cut-freed t s sub))
+freed : (t : Tab) (s sub k : ℕ) → is_live_slot t.links s ≡ true → is_live_slot (unlinked_n (suc k) t s sub).links s ≡ false
+unfolding unlinked_n unlinked_by
+freed t s sub k h = rw (h, unlinked_by) (told NoneLive none_live_kept k t s sub (keeps NoneLive none_live_kept k) s (cut_freed t s sub))
 
-pub unlinked-freed : (t : Tab) (s sub : ℕ) → isLive (unlinked t s sub).tabs.links s ≡ false
+pub unlinked_freed : (t : Tab) (s sub : ℕ) → is_live_slot (unlinked t s sub).tabs.links s ≡ false
 unfolding unlinked
-unlinked-freed t s sub = go (isLive t.links s) refl
+unlinked_freed t s sub = go (is_live_slot t.links s) refl
   where
-    more : (k : ℕ) → isLive t.links s ≡ true → 0 < k → isLive (unlinkedN k t s sub).links s ≡ false
+    more : (k : ℕ) → is_live_slot t.links s ≡ true → 0 < k → is_live_slot (unlinked_n k t s sub).links s ≡ false
     more zero h p = absurd (omega arith)
     more (suc k) h p = freed t s sub k h
 
-    go : (b : Bool) → isLive t.links s ≡ b → isLive (unlinkedN (slots t.links) t s sub).links s ≡ false
-    go false h = keeps NoneLive none-live-kept (slots t.links) t s sub s h
+    go : (b : Bool) → is_live_slot t.links s ≡ b → is_live_slot (unlinked_n (slots t.links) t s sub).links s ≡ false
+    go false h = keeps NoneLive none_live_kept (slots t.links) t s sub s h
     go true h = more (slots t.links) h (omega (arith, live_in t.links s h))

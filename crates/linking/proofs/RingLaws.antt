@@ -9,88 +9,88 @@ use lib.ListN.{length}
 use Rattle.primitive.specs.Slots.{slot_of}
 use Rattle.primitive.specs.declared.slots.Slot.{Slot}
 use Rattle.primitive.specs.declared.slots.Slot.TheVariants.{At, Nothing}
-use Rattle.primitive.proofs.RowLaws.{length-setField}
-use Rattle.linking.specs.Free.{isLive, live}
-use Rattle.linking.specs.Neighbours.{nextDep, setBeside, setBesideOn}
+use Rattle.primitive.proofs.RowLaws.{length-set_field}
+use Rattle.linking.specs.Free.{is_live_slot, live}
+use Rattle.linking.specs.Neighbours.{next_dep_of, set_beside, set_beside_on}
 use Rattle.primitive.specs.Words.{LIVE, DEP, NEXT-DEP, DEPS-TAIL, PREV-DEP, PREV-SUB, NEXT-SUB, node, link}
 use Rattle.linking.specs.Table.{Tab}
-use Rattle.linking.specs.Ring.{isOnly, isMutable, mended, cutOut, next_of, walked, purgedBy, disposedBy, droppedBy, unwatchedBy, unlinkedBy, unlinkedN, more, Unlinks}
-use Rattle.linking.proofs.FreeLaws.{live_same, live-released, marks-stored}
+use Rattle.linking.specs.Ring.{is_only, is_mutable, mended, cut_out, next_of, walked, purged_by, disposed_by, dropped_by, unwatched_by, unlinked_by, unlinked_n, more, Unlinks}
+use Rattle.linking.proofs.FreeLaws.{live_same, live_released, marks_stored}
 
 -- ---- a test that the code turns round
-pub not-true : (b : Bool) → not b ≡ true → b ≡ false
-not-true true e = sym e
-not-true false e = refl
+pub not_true_lem : (b : Bool) → not b ≡ true → b ≡ false
+not_true_lem true e = sym e
+not_true_lem false e = refl
 
-pub not-false : (b : Bool) → not b ≡ false → b ≡ true
-not-false true e = refl
-not-false false e = sym e
+pub not_false_lem : (b : Bool) → not b ≡ false → b ≡ true
+not_false_lem true e = refl
+not_false_lem false e = sym e
 
 -- ---- mending the neighbours keeps every live mark, and the lengths
 pub record Marked (t u : Tab) : Type 0 where
   pub long : length u.links ≡ length t.links
-  pub marks : (i : ℕ) → isLive u.links i ≡ isLive t.links i
+  pub marks : (i : ℕ) → is_live_slot u.links i ≡ is_live_slot t.links i
 
-then-marked : {t u v : Tab} → Marked t u → Marked u v → Marked t v
-then-marked a b = record { long = b.long ∙ a.long; marks = λ i. b.marks i ∙ a.marks i }
+then_marked : {t u v : Tab} → Marked t u → Marked u v → Marked t v
+then_marked a b = record { long = b.long ∙ a.long; marks = λ i. b.marks i ∙ a.marks i }
 
-pub beside-marked : (t : Tab) (beside f n g w : ℕ) → eqb LIVE f ≡ false → Marked t (setBeside t beside f n g w)
-unfolding setBeside
-beside-marked t beside f n g w d = go (slot_of beside)
+pub beside_marked : (t : Tab) (beside f n g w : ℕ) → eqb LIVE f ≡ false → Marked t (set_beside t beside f n g w)
+unfolding set_beside
+beside_marked t beside f n g w d = go (slot_of beside)
   where
-    go : (o : Slot) → Marked t (setBesideOn o t f n g w)
+    go : (o : Slot) → Marked t (set_beside_on o t f n g w)
     go Nothing = record { long = refl; marks = λ i. refl }
-    go (At s) = record { long = length-setField 8 t.links s f w; marks = λ i. marks-stored t.links s f w d i }
+    go (At s) = record { long = length-set_field 8 t.links s f w; marks = λ i. marks_stored t.links s f w d i }
 
 module _ (t : Tab) (s sub : ℕ) where
-  pub mended-marked : Marked t (mended t s sub)
+  pub mended_marked : Marked t (mended t s sub)
   unfolding mended
-  mended-marked =
-      then-marked (beside-marked _ _ PREV-DEP _ _ _ refl)
-      (then-marked (beside-marked _ _ NEXT-DEP _ _ _ refl)
-      (then-marked (beside-marked _ _ PREV-SUB _ _ _ refl) (beside-marked _ _ NEXT-SUB _ _ _ refl)))
+  mended_marked =
+      then_marked (beside_marked _ _ PREV-DEP _ _ _ refl)
+      (then_marked (beside_marked _ _ NEXT-DEP _ _ _ refl)
+      (then_marked (beside_marked _ _ PREV-SUB _ _ _ refl) (beside_marked _ _ NEXT-SUB _ _ _ refl)))
 
-  pub cut-fewer : isLive t.links s ≡ true → live t.links ≡ suc (live (cutOut t s sub).links)
-  unfolding cutOut
-  cut-fewer h =
-      let m = mended-marked in
+  pub cut_fewer : is_live_slot t.links s ≡ true → live t.links ≡ suc (live (cut_out t s sub).links)
+  unfolding cut_out
+  cut_fewer h =
+      let m = mended_marked in
       sym (live_same t.links (mended t s sub).links m.long m.marks)
-      ∙ live-released (mended t s sub).links s (m.marks s ∙ h)
+      ∙ live_released (mended t s sub).links s (m.marks s ∙ h)
 
   -- ---- the ways of unlink
-  pub unlink-dead : isLive t.links s ≡ false → (k : ℕ) → t ≡ unlinkedN k t s sub
-  unfolding unlinkedN unlinkedBy
-  unlink-dead e zero = refl
-  unlink-dead e (suc k) = rw (e, unlinkedBy)
+  pub unlink_dead : is_live_slot t.links s ≡ false → (k : ℕ) → t ≡ unlinked_n k t s sub
+  unfolding unlinked_n unlinked_by
+  unlink_dead e zero = refl
+  unlink_dead e (suc k) = rw (e, unlinked_by)
 
-  pub next-dead : isLive t.links s ≡ false → Nothing ≡ next_of t.links s
+  pub next_dead : is_live_slot t.links s ≡ false → Nothing ≡ next_of t.links s
   unfolding next_of
-  next-dead e = rw (e, next_of)
+  next_dead e = rw (e, next_of)
 
-  pub next-live : isLive t.links s ≡ true → slot_of (link t.links s NEXT-DEP) ≡ next_of t.links s
+  pub next_live : is_live_slot t.links s ≡ true → slot_of (link t.links s NEXT-DEP) ≡ next_of t.links s
   unfolding next_of
-  next-live e = rw (e, next_of)
+  next_live e = rw (e, next_of)
 
-  module _ (h : isLive t.links s ≡ true) (k : ℕ) (enough : live t.links ≤ k) where
+  module _ (h : is_live_slot t.links s ≡ true) (k : ℕ) (enough : live t.links ≤ k) where
     -- others subscribe still
-    pub unlink-shared : isOnly t.links s ≡ false → cutOut t s sub ≡ unlinkedN k t s sub
-    unfolding unlinkedN unlinkedBy
-    unlink-shared e = go k enough
+    pub unlink_shared : is_only t.links s ≡ false → cut_out t s sub ≡ unlinked_n k t s sub
+    unfolding unlinked_n unlinked_by
+    unlink_shared e = go k enough
       where
-        go : (k : ℕ) → live t.links ≤ k → cutOut t s sub ≡ unlinkedN k t s sub
-        go zero n = absurd (omega (arith, cut-fewer h))
-        go (suc j) n = rw (h, e, unlinkedBy)
+        go : (k : ℕ) → live t.links ≤ k → cut_out t s sub ≡ unlinked_n k t s sub
+        go zero n = absurd (omega (arith, cut_fewer h))
+        go (suc j) n = rw (h, e, unlinked_by)
 
     -- the last subscriber: what is left to show, at one slot less
-    pub unlink-only : isOnly t.links s ≡ true → {u : Tab}
-        → ((j : ℕ) → live (cutOut t s sub).links ≤ j → u ≡ unwatchedBy (unlinkedN j) j (cutOut t s sub) (link t.links s DEP))
-        → u ≡ unlinkedN k t s sub
-    unfolding unlinkedN unlinkedBy
-    unlink-only e {u} g = go k enough
+    pub unlink_only : is_only t.links s ≡ true → {u : Tab}
+        → ((j : ℕ) → live (cut_out t s sub).links ≤ j → u ≡ unwatched_by (unlinked_n j) j (cut_out t s sub) (link t.links s DEP))
+        → u ≡ unlinked_n k t s sub
+    unfolding unlinked_n unlinked_by
+    unlink_only e {u} g = go k enough
       where
-        go : (k : ℕ) → live t.links ≤ k → u ≡ unlinkedN k t s sub
-        go zero n = absurd (omega (arith, cut-fewer h))
-        go (suc j) n = rw (h, e, unlinkedBy) (g j (omega (arith, cut-fewer h)))
+        go : (k : ℕ) → live t.links ≤ k → u ≡ unlinked_n k t s sub
+        go zero n = absurd (omega (arith, cut_fewer h))
+        go (suc j) n = rw (h, e, unlinked_by) (g j (omega (arith, cut_fewer h)))
 
 pub more≤1 : (d : Slot) → more d ≤ 1
 more≤1 (At s) = omega arith
@@ -98,24 +98,24 @@ more≤1 Nothing = omega arith
 
 -- ---- the ways of unwatched
 module _ (u : Tab → ℕ → ℕ → Tab) (k : ℕ) (t : Tab) (n : ℕ) where
-  pub unwatched-dispose : isMutable t.nodes n ≡ false → disposedBy u k t n ≡ unwatchedBy u k t n
-  unfolding unwatchedBy
-  unwatched-dispose e = rw (e, unwatchedBy)
+  pub unwatched_dispose : is_mutable t.nodes n ≡ false → disposed_by u k t n ≡ unwatched_by u k t n
+  unfolding unwatched_by
+  unwatched_dispose e = rw (e, unwatched_by)
 
-  pub unwatched-on : isMutable t.nodes n ≡ true → {o : Slot} → slot_of (node t.nodes n DEPS-TAIL) ≡ o → droppedBy u k t n o ≡ unwatchedBy u k t n
-  unfolding unwatchedBy
-  unwatched-on e {o} f = rw (e, unwatchedBy) (ap (droppedBy u k t n) (sym f))
+  pub unwatched_on : is_mutable t.nodes n ≡ true → {o : Slot} → slot_of (node t.nodes n DEPS-TAIL) ≡ o → dropped_by u k t n o ≡ unwatched_by u k t n
+  unfolding unwatched_by
+  unwatched_on e {o} f = rw (e, unwatched_by) (ap (dropped_by u k t n) (sym f))
 
 -- ---- a purge begins behind the tail: where nothing stands there, nothing goes
-pub purged-none : (u : Tab → ℕ → ℕ → Tab) (k : ℕ) (t : Tab) (sub : ℕ) → nextDep t sub (node t.nodes sub DEPS-TAIL) ≡ 0 → purgedBy u k t sub ≡ t
-unfolding purgedBy walked
-purged-none u k t sub e = ap (λ (w : ℕ). walked u (suc k) t (slot_of w) sub) e
+pub purged_none : (u : Tab → ℕ → ℕ → Tab) (k : ℕ) (t : Tab) (sub : ℕ) → next_dep_of t sub (node t.nodes sub DEPS-TAIL) ≡ 0 → purged_by u k t sub ≡ t
+unfolding purged_by walked
+purged_none u k t sub e = ap (λ (w : ℕ). walked u (suc k) t (slot_of w) sub) e
 
 -- ---- the turns of a purge, at the bound k
 pub record Walking (k : ℕ) (t₀ : Tab) (d₀ : Slot) (sub : ℕ) (t : Tab) (d : Slot) : Type 0 where
   pub turns : ℕ
   pub room : live t.links + more d ≤ turns
-  pub same : walked (unlinkedN k) turns t d sub ≡ walked (unlinkedN k) (suc k) t₀ d₀ sub
+  pub same : walked (unlinked_n k) turns t d sub ≡ walked (unlinked_n k) (suc k) t₀ d₀ sub
 
 pub walk_start : (k : ℕ) (t : Tab) (d : Slot) (sub : ℕ) → live t.links ≤ k → Walking k t d sub t d
 walk_start k t d sub h = record { turns = suc k; room = omega (arith, more≤1 d); same = refl }
@@ -125,14 +125,14 @@ pub walk_turn : (k : ℕ) (t₀ : Tab) (d₀ : Slot) (sub : ℕ) (t : Tab) (d : 
 unfolding walked
 walk_turn k t₀ d₀ sub t d s r u w e h v = go w.turns (rw e at w.room) (rw e at w.same)
   where
-    go : (m : ℕ) → live t.links + 1 ≤ m → walked (unlinkedN k) m t (At s) sub ≡ walked (unlinkedN k) (suc k) t₀ d₀ sub → Walking k t₀ d₀ sub u r
+    go : (m : ℕ) → live t.links + 1 ≤ m → walked (unlinked_n k) m t (At s) sub ≡ walked (unlinked_n k) (suc k) t₀ d₀ sub → Walking k t₀ d₀ sub u r
     go zero room same = absurd (omega arith)
     go (suc m) room same = record { turns = m; room = omega (arith, v.fewer); same = rw (v.same k h, v.next) same }
 
-pub walk-done : (k : ℕ) (t₀ : Tab) (d₀ : Slot) (sub : ℕ) (t : Tab) (d : Slot) → Walking k t₀ d₀ sub t d → d ≡ Nothing → t ≡ walked (unlinkedN k) (suc k) t₀ d₀ sub
+pub walk_done : (k : ℕ) (t₀ : Tab) (d₀ : Slot) (sub : ℕ) (t : Tab) (d : Slot) → Walking k t₀ d₀ sub t d → d ≡ Nothing → t ≡ walked (unlinked_n k) (suc k) t₀ d₀ sub
 unfolding walked
-walk-done k t₀ d₀ sub t d w e = go w.turns (rw e at w.same)
+walk_done k t₀ d₀ sub t d w e = go w.turns (rw e at w.same)
   where
-    go : (m : ℕ) → walked (unlinkedN k) m t Nothing sub ≡ walked (unlinkedN k) (suc k) t₀ d₀ sub → t ≡ walked (unlinkedN k) (suc k) t₀ d₀ sub
+    go : (m : ℕ) → walked (unlinked_n k) m t Nothing sub ≡ walked (unlinked_n k) (suc k) t₀ d₀ sub → t ≡ walked (unlinked_n k) (suc k) t₀ d₀ sub
     go zero e = e
     go (suc m) e = e

@@ -1,13 +1,13 @@
 // The slots of the link table: which are live, and the list of the free ones. Its head is a word of row 0, and it runs along NEXT_DEP, the last freed first.
 ghost use Rattle.std.specs.Prelude.{◌≡◌};
-ghost use Rattle.linking.specs.Free.{fresh, isLive, live, taken, released};
+ghost use Rattle.linking.specs.Free.{fresh, is_live_slot, live, taken, released};
 
 use primitive::rows::{FREE, LINK, LIVE, NEXT_DEP};
 use primitive::slots::Slot;
 use primitive::{slots, words};
 
 pub fn is_live(links: &[u64], s: u64) -> bool
-    ensures { result ≡ isLive links.now s }
+    ensures { result ≡ is_live_slot links.now s }
 {
     words::get(links, LINK, s, LIVE) != 0
 }

@@ -3,7 +3,7 @@
 ghost use Rattle.std.specs.Prelude.{◌≡◌};
 ghost use Rattle.linking.specs.Free.{fresh};
 ghost use Rattle.linking.specs.Table.{tab};
-ghost use Rattle.linking.specs.Link.{names, newest, made, setBack, inserted, reused, linked};
+ghost use Rattle.linking.specs.Link.{names, newest, made, set_back, inserted, reused, linked};
 
 use crate::{free, neighbours};
 use linking::link::LinkInit;
@@ -60,7 +60,7 @@ fn new_link(links: &mut [u64], init: LinkInit) -> u64
 }
 
 fn set_back(links: &mut [u64], next: u64, w: u64)
-    ensures { links.new ≡ setBack links.old next w }
+    ensures { links.new ≡ set_back links.old next w }
 {
     let Slot::At(s) = slots::open(next) else {
         return;

@@ -2,7 +2,7 @@
 // say what is left for every bound on the live links; the file unlink.rt says it plainly.
 ghost use Rattle.std.specs.Prelude.{◌≡◌};
 ghost use Rattle.linking.specs.Table.{tab};
-ghost use Rattle.linking.specs.Ring.{isOnly, isMutable, reset, retired, cutOut, Unlinks, Unwatches, Disposes, Purges};
+ghost use Rattle.linking.specs.Ring.{is_only, is_mutable, reset, retired, cut_out, Unlinks, Unwatches, Disposes, Purges};
 
 use crate::{free, neighbours};
 use flags::Flags;
@@ -15,7 +15,7 @@ use primitive::{slots, words};
 
 // Whether the slot is its dependency's only subscriber.
 fn is_only(links: &[u64], s: u64) -> bool
-    ensures { result ≡ isOnly links.now s }
+    ensures { result ≡ is_only links.now s }
 {
     let Slot::At(_) = slots::open(words::get(links, LINK, s, PREV_SUB)) else {
         return words::get(links, LINK, s, NEXT_SUB) == 0;
@@ -24,7 +24,7 @@ fn is_only(links: &[u64], s: u64) -> bool
 }
 
 fn is_mutable(nodes: &[u64], n: u64) -> bool
-    ensures { result ≡ isMutable nodes.now n }
+    ensures { result ≡ is_mutable nodes.now n }
 {
     let flags = Flags::of_word(words::get(nodes, NODE, n, FLAGS));
     flags.mask(Flags::MUTABLE).is_nonzero()
@@ -48,7 +48,7 @@ fn retire(nodes: &mut [u64], n: u64)
 
 // Mends the neighbours of a slot in both of its lists, and frees it.
 fn cut_out(nodes: &mut [u64], links: &mut [u64], s: u64, sub: u64)
-    ensures { tab nodes.new links.new ≡ cutOut (tab nodes.old links.old) s sub }
+    ensures { tab nodes.new links.new ≡ cut_out (tab nodes.old links.old) s sub }
 {
     let dep = words::get(links, LINK, s, DEP);
     let prev_dep = words::get(links, LINK, s, PREV_DEP);

@@ -11,57 +11,57 @@ use borrow.Author.Tests.{ne_eqb, eqb-true, eqb-false}
 use Rattle.lists.specs.Sum.{bit, sum, count, occ, All}
 use Rattle.lists.specs.Walk.{slots}
 use Rattle.lists.specs.Each.{both, either, pick, every, along, tally, keep}
-use Rattle.lists.proofs.SumLaws.{bit-true, bit-false, clash, occ-cons, sum_same, sum-occ, occ-none}
+use Rattle.lists.proofs.SumLaws.{bit_true, bit_false, clash, occ_cons, sum_same, sum_occ, occ_none}
 
 pub both_true : (a b : Bool) → both a b ≡ true → (a ≡ true) × (b ≡ true)
 both_true true b e = (refl, e)
 both_true false b e = absurd (clash false e refl)
 
-pub true-both : (a b : Bool) → a ≡ true → b ≡ true → both a b ≡ true
-true-both a b p q = rw (p, q)
+pub true_both : (a b : Bool) → a ≡ true → b ≡ true → both a b ≡ true
+true_both a b p q = rw (p, q)
 
 pub all_map : (R S : ℕ → Type 0) (xs : List ℕ) → ((x : ℕ) → R x → S x) → All R xs → All S xs
 all_map R S [] f a = tt
 all_map R S (x ∷ xs) f a = (f x a.0, all_map R S xs f a.1)
 
-pub all-zip : (R S U : ℕ → Type 0) (xs : List ℕ) → ((x : ℕ) → R x → S x → U x) → All R xs → All S xs → All U xs
-all-zip R S U [] f a b = tt
-all-zip R S U (x ∷ xs) f a b = (f x a.0 b.0, all-zip R S U xs f a.1 b.1)
+pub all_zip : (R S U : ℕ → Type 0) (xs : List ℕ) → ((x : ℕ) → R x → S x → U x) → All R xs → All S xs → All U xs
+all_zip R S U [] f a b = tt
+all_zip R S U (x ∷ xs) f a b = (f x a.0 b.0, all_zip R S U xs f a.1 b.1)
 
 pub either_true : (a b : Bool) → either a b ≡ true → (a ≡ true) ⊎ (b ≡ true)
 either_true true b e = inl refl
 either_true false b e = inr e
 
-pub true-either : (a b : Bool) → (a ≡ true) ⊎ (b ≡ true) → either a b ≡ true
-true-either true b s = refl
-true-either false b (inl e) = absurd (clash false e refl)
-true-either false b (inr e) = e
+pub true_either : (a b : Bool) → (a ≡ true) ⊎ (b ≡ true) → either a b ≡ true
+true_either true b s = refl
+true_either false b (inl e) = absurd (clash false e refl)
+true_either false b (inr e) = e
 
 -- by the branch that was taken
 pub pick_true : {C : Type 0} (b x y : Bool) → pick b x y ≡ true → (b ≡ true → x ≡ true → C) → (b ≡ false → y ≡ true → C) → C
 pick_true true x y e f g = f refl e
 pick_true false x y e f g = g refl e
 
-pub cond-true : (a b : Bool) → elim a [ true ↦ b | false ↦ false ] ≡ true → (a ≡ true) × (b ≡ true)
-cond-true true b e = (refl, e)
-cond-true false b e = absurd (let z : ◌≡◌ {A = ℕ} 0 1 = ap bit e in omega arith)
+pub cond_true : (a b : Bool) → elim a [ true ↦ b | false ↦ false ] ≡ true → (a ≡ true) × (b ≡ true)
+cond_true true b e = (refl, e)
+cond_true false b e = absurd (let z : ◌≡◌ {A = ℕ} 0 1 = ap bit e in omega arith)
 
-pub true-cond : (a b : Bool) → a ≡ true → b ≡ true → elim a [ true ↦ b | false ↦ false ] ≡ true
-true-cond true b p q = q
-true-cond false b p q = p
+pub true_cond : (a b : Bool) → a ≡ true → b ≡ true → elim a [ true ↦ b | false ↦ false ] ≡ true
+true_cond true b p q = q
+true_cond false b p q = p
 
 module _ (p : ℕ → Bool) where
-  pub keep-yes : (x : ℕ) (xs : List ℕ) → p x ≡ true → keep p (x ∷ xs) ≡ x ∷ keep p xs
+  pub keep_yes : (x : ℕ) (xs : List ℕ) → p x ≡ true → keep p (x ∷ xs) ≡ x ∷ keep p xs
   unfolding keep
-  keep-yes x xs e = rw (e, keep)
+  keep_yes x xs e = rw (e, keep)
 
-  pub keep-no : (x : ℕ) (xs : List ℕ) → p x ≡ false → keep p (x ∷ xs) ≡ keep p xs
+  pub keep_no : (x : ℕ) (xs : List ℕ) → p x ≡ false → keep p (x ∷ xs) ≡ keep p xs
   unfolding keep
-  keep-no x xs e = rw (e, keep)
+  keep_no x xs e = rw (e, keep)
 
-  pub keep-nil : keep p [] ≡ []
+  pub keep_nil : keep p [] ≡ []
   unfolding keep
-  keep-nil = refl
+  keep_nil = refl
 
   pub keep_all : (R : ℕ → Type 0) (xs : List ℕ) → All R xs → All R (keep p xs)
   unfolding keep
@@ -72,83 +72,83 @@ module _ (p : ℕ → Bool) where
       at r true = (a.0, r)
       at r false = r
 
-  pub keep-is : (xs : List ℕ) → All (λ (x : ℕ). p x ≡ true) (keep p xs)
-  keep-is [] = rw keep-nil tt
-  keep-is (x ∷ xs) = at (keep-is xs) (p x) refl
+  pub keep_is : (xs : List ℕ) → All (λ (x : ℕ). p x ≡ true) (keep p xs)
+  keep_is [] = rw keep_nil tt
+  keep_is (x ∷ xs) = at (keep_is xs) (p x) refl
     where
       at : All (λ (y : ℕ). p y ≡ true) (keep p xs) → (b : Bool) → p x ≡ b → All (λ (y : ℕ). p y ≡ true) (keep p (x ∷ xs))
-      at r true e = rw (keep-yes x xs e) (e, r)
-      at r false e = rw (keep-no x xs e) r
+      at r true e = rw (keep_yes x xs e) (e, r)
+      at r false e = rw (keep_no x xs e) r
 
-  pub keep-occ : (y : ℕ) (xs : List ℕ) → p y ≡ true → occ y (keep p xs) ≡ occ y xs
-  keep-occ y [] h = rw keep-nil refl
-  keep-occ y (x ∷ xs) h = at (keep-occ y xs h) (p x) refl
+  pub keep_occ : (y : ℕ) (xs : List ℕ) → p y ≡ true → occ y (keep p xs) ≡ occ y xs
+  keep_occ y [] h = rw keep_nil refl
+  keep_occ y (x ∷ xs) h = at (keep_occ y xs h) (p x) refl
     where
       at : occ y (keep p xs) ≡ occ y xs → (b : Bool) → p x ≡ b → occ y (keep p (x ∷ xs)) ≡ occ y (x ∷ xs)
-      at r true e = rw (keep-yes x xs e) (omega (arith, occ-cons y x (keep p xs), occ-cons y x xs))
+      at r true e = rw (keep_yes x xs e) (omega (arith, occ_cons y x (keep p xs), occ_cons y x xs))
       at r false e =
           let n : y ≡ x → ⊥ = λ i. clash (p x) (ap p (sym i) ∙ h) e in
-          rw (keep-no x xs e) (omega (arith, occ-cons y x xs, bit-false (eqb y x) (ne_eqb y x n)))
+          rw (keep_no x xs e) (omega (arith, occ_cons y x xs, bit_false (eqb y x) (ne_eqb y x n)))
 
   -- as many are kept as there are numbers below n that satisfy q, where each of these stands once and no other is kept
-  pub keep-count : (q : ℕ → Bool) (n : ℕ) (xs : List ℕ) → ((x : ℕ) → q x ≡ true → p x ≡ true) → All (λ (x : ℕ). x < n) xs
+  pub keep_count : (q : ℕ → Bool) (n : ℕ) (xs : List ℕ) → ((x : ℕ) → q x ≡ true → p x ≡ true) → All (λ (x : ℕ). x < n) xs
       → All (λ (x : ℕ). q x ≡ true) (keep p xs) → ((x : ℕ) → occ x xs ≤ 1) → ((x : ℕ) → x < n → q x ≡ true → occ x xs ≡ 1) → length (keep p xs) ≡ count q n
-  keep-count q n xs i low is once all =
-      sym (sum-occ (keep p xs) n (keep_all (λ (x : ℕ). x < n) xs low)) ∙ sum_same _ _ n (λ x h. at x h (q x) refl)
+  keep_count q n xs i low is once all =
+      sym (sum_occ (keep p xs) n (keep_all (λ (x : ℕ). x < n) xs low)) ∙ sum_same _ _ n (λ x h. at x h (q x) refl)
     where
       at : (x : ℕ) → x < n → (b : Bool) → q x ≡ b → occ x (keep p xs) ≡ bit (q x)
-      at x h true e = keep-occ x xs (i x e) ∙ all x h e ∙ sym (bit-true (q x) e)
-      at x h false e = occ-none (λ (y : ℕ). q y ≡ true) x (keep p xs) is (λ t. clash (q x) t e) ∙ sym (bit-false (q x) e)
+      at x h true e = keep_occ x xs (i x e) ∙ all x h e ∙ sym (bit_true (q x) e)
+      at x h false e = occ_none (λ (y : ℕ). q y ≡ true) x (keep p xs) is (λ t. clash (q x) t e) ∙ sym (bit_false (q x) e)
 
-pub every-sound : (p : ℕ → Bool) (n : ℕ) → every p n ≡ true → (k : ℕ) → k < n → p k ≡ true
+pub every_sound : (p : ℕ → Bool) (n : ℕ) → every p n ≡ true → (k : ℕ) → k < n → p k ≡ true
 unfolding every
-every-sound p zero e k h = absurd (omega arith)
-every-sound p (suc n) e k h = let r = cond-true (p n) (every p n) e in at r.0 (every-sound p n r.1 k) (eqb k n) refl
+every_sound p zero e k h = absurd (omega arith)
+every_sound p (suc n) e k h = let r = cond_true (p n) (every p n) e in at r.0 (every_sound p n r.1 k) (eqb k n) refl
   where
     at : p n ≡ true → (k < n → p k ≡ true) → (c : Bool) → eqb k n ≡ c → p k ≡ true
     at top rest true q = ap p (eqb-true k n q) ∙ top
     at top rest false q = let f : k ≡ n → ⊥ = eqb-false k n q in rest (omega arith)
 
-pub every-complete : (p : ℕ → Bool) (n : ℕ) → ((k : ℕ) → k < n → p k ≡ true) → every p n ≡ true
+pub every_complete : (p : ℕ → Bool) (n : ℕ) → ((k : ℕ) → k < n → p k ≡ true) → every p n ≡ true
 unfolding every
-every-complete p zero h = refl
-every-complete p (suc n) h = true-cond (p n) (every p n) (h n (omega arith)) (every-complete p n (λ k l. h k (omega arith)))
+every_complete p zero h = refl
+every_complete p (suc n) h = true_cond (p n) (every p n) (h n (omega arith)) (every_complete p n (λ k l. h k (omega arith)))
 
 module _ (next : ℕ → ℕ) (p : ℕ → Bool) where
-  pub along-sound : (b w : ℕ) → along next p b w ≡ true → All (λ (x : ℕ). p x ≡ true) (slots next b w)
+  pub along_sound : (b w : ℕ) → along next p b w ≡ true → All (λ (x : ℕ). p x ≡ true) (slots next b w)
   unfolding along slots
-  along-sound zero w e = tt
-  along-sound (suc b) zero e = tt
-  along-sound (suc b) (suc x) e = let r = cond-true (p x) (along next p b (next x)) e in (r.0, along-sound b (next x) r.1)
+  along_sound zero w e = tt
+  along_sound (suc b) zero e = tt
+  along_sound (suc b) (suc x) e = let r = cond_true (p x) (along next p b (next x)) e in (r.0, along_sound b (next x) r.1)
 
-  pub along-complete : (b w : ℕ) → All (λ (x : ℕ). p x ≡ true) (slots next b w) → along next p b w ≡ true
+  pub along_complete : (b w : ℕ) → All (λ (x : ℕ). p x ≡ true) (slots next b w) → along next p b w ≡ true
   unfolding along slots
-  along-complete zero w a = refl
-  along-complete (suc b) zero a = refl
-  along-complete (suc b) (suc x) a = true-cond (p x) (along next p b (next x)) a.0 (along-complete b (next x) a.1)
+  along_complete zero w a = refl
+  along_complete (suc b) zero a = refl
+  along_complete (suc b) (suc x) a = true_cond (p x) (along next p b (next x)) a.0 (along_complete b (next x) a.1)
 
-  pub tally-keep : (b w : ℕ) → tally next p b w ≡ length (keep p (slots next b w))
+  pub tally_keep : (b w : ℕ) → tally next p b w ≡ length (keep p (slots next b w))
   unfolding tally slots
-  tally-keep zero w = ap length (sym (keep-nil p))
-  tally-keep (suc b) zero = ap length (sym (keep-nil p))
-  tally-keep (suc b) (suc x) = at (tally-keep b (next x)) (p x) refl
+  tally_keep zero w = ap length (sym (keep_nil p))
+  tally_keep (suc b) zero = ap length (sym (keep_nil p))
+  tally_keep (suc b) (suc x) = at (tally_keep b (next x)) (p x) refl
     where
       at : tally next p b (next x) ≡ length (keep p (slots next b (next x))) → (c : Bool) → p x ≡ c
           → bit (p x) + tally next p b (next x) ≡ length (keep p (x ∷ slots next b (next x)))
-      at i true e = rw (keep-yes p x (slots next b (next x)) e) (omega (arith, i, bit-true (p x) e))
-      at i false e = rw (keep-no p x (slots next b (next x)) e) (omega (arith, i, bit-false (p x) e))
+      at i true e = rw (keep_yes p x (slots next b (next x)) e) (omega (arith, i, bit_true (p x) e))
+      at i false e = rw (keep_no p x (slots next b (next x)) e) (omega (arith, i, bit_false (p x) e))
 
 -- ---- the ways through one turn of the code
 module _ (p : ℕ → Bool) where
-  pub every-end : (k : ℕ) → k ≤ 0 → every p k ≡ true
+  pub every_end : (k : ℕ) → k ≤ 0 → every p k ≡ true
   unfolding every
-  every-end zero h = refl
-  every-end (suc k) h = absurd (omega arith)
+  every_end zero h = refl
+  every_end (suc k) h = absurd (omega arith)
 
-  pub every-bad : (k : ℕ) → 0 < k → p (k - 1) ≡ false → every p k ≡ false
+  pub every_bad : (k : ℕ) → 0 < k → p (k - 1) ≡ false → every p k ≡ false
   unfolding every
-  every-bad zero h e = absurd (omega arith)
-  every-bad (suc k) h e =
+  every_bad zero h e = absurd (omega arith)
+  every_bad (suc k) h e =
       let m : suc k - 1 ≡ k = omega arith in
       let f : p k ≡ false = rw m at e in
       rw (f, every)
@@ -161,56 +161,56 @@ module _ (p : ℕ → Bool) where
       let f : p k ≡ true = rw m at e in
       rw (m, f, every)
 
-  pub count-step : (k c n : ℕ) → 0 < k → c + count p k ≡ n → (c + bit (p (k - 1))) + count p (k - 1) ≡ n
+  pub count_step : (k c n : ℕ) → 0 < k → c + count p k ≡ n → (c + bit (p (k - 1))) + count p (k - 1) ≡ n
   unfolding sum
-  count-step zero c n h e = absurd (omega arith)
-  count-step (suc k) c n h e = let q : suc k - 1 ≡ k = omega arith in rw q (omega (arith, e))
+  count_step zero c n h e = absurd (omega arith)
+  count_step (suc k) c n h e = let q : suc k - 1 ≡ k = omega arith in rw q (omega (arith, e))
 
-  pub count-end : (k c n : ℕ) → k ≤ 0 → c + count p k ≡ n → c ≡ n
+  pub count_end_lem : (k c n : ℕ) → k ≤ 0 → c + count p k ≡ n → c ≡ n
   unfolding sum
-  count-end zero c n h e = omega (arith, e)
-  count-end (suc k) c n h e = absurd (omega arith)
+  count_end_lem zero c n h e = omega (arith, e)
+  count_end_lem (suc k) c n h e = absurd (omega arith)
 
 module _ (next : ℕ → ℕ) (p : ℕ → Bool) where
-  pub along-out : (b w : ℕ) → b ≤ 0 → along next p b w ≡ true
+  pub along_out : (b w : ℕ) → b ≤ 0 → along next p b w ≡ true
   unfolding along
-  along-out zero w h = refl
-  along-out (suc b) w h = absurd (omega arith)
+  along_out zero w h = refl
+  along_out (suc b) w h = absurd (omega arith)
 
-  pub along-end : (b w : ℕ) → w ≡ 0 → along next p b w ≡ true
+  pub along_end : (b w : ℕ) → w ≡ 0 → along next p b w ≡ true
   unfolding along
-  along-end zero w e = refl
-  along-end (suc b) w e = rw e
+  along_end zero w e = refl
+  along_end (suc b) w e = rw e
 
-  pub along-bad : (b w x : ℕ) → 0 < b → w ≡ suc x → p x ≡ false → along next p b w ≡ false
+  pub along_bad : (b w x : ℕ) → 0 < b → w ≡ suc x → p x ≡ false → along next p b w ≡ false
   unfolding along
-  along-bad zero w x h i e = absurd (omega arith)
-  along-bad (suc b) w x h i e = rw i (rw (e, along))
+  along_bad zero w x h i e = absurd (omega arith)
+  along_bad (suc b) w x h i e = rw i (rw (e, along))
 
-  pub along-more : (b w x v : ℕ) → 0 < b → w ≡ suc x → p x ≡ true → v ≡ next x → along next p b w ≡ along next p (b - 1) v
+  pub along_more : (b w x v : ℕ) → 0 < b → w ≡ suc x → p x ≡ true → v ≡ next x → along next p b w ≡ along next p (b - 1) v
   unfolding along
-  along-more zero w x v h i e q = absurd (omega arith)
-  along-more (suc b) w x v h i e q = let o : suc b - 1 ≡ b = omega arith in rw (i, q, o) (rw (e, along))
+  along_more zero w x v h i e q = absurd (omega arith)
+  along_more (suc b) w x v h i e q = let o : suc b - 1 ≡ b = omega arith in rw (i, q, o) (rw (e, along))
 
-  pub tally-out : (b w c n : ℕ) → b ≤ 0 → c + tally next p b w ≡ n → c ≡ n
+  pub tally_out : (b w c n : ℕ) → b ≤ 0 → c + tally next p b w ≡ n → c ≡ n
   unfolding tally
-  tally-out zero w c n h e = omega (arith, e)
-  tally-out (suc b) w c n h e = absurd (omega arith)
+  tally_out zero w c n h e = omega (arith, e)
+  tally_out (suc b) w c n h e = absurd (omega arith)
 
-  pub tally-end : (b w c n : ℕ) → w ≡ 0 → c + tally next p b w ≡ n → c ≡ n
+  pub tally_end : (b w c n : ℕ) → w ≡ 0 → c + tally next p b w ≡ n → c ≡ n
   unfolding tally
-  tally-end b zero c n i e = at b e
+  tally_end b zero c n i e = at b e
     where
       at : (b : ℕ) → c + tally next p b zero ≡ n → c ≡ n
       at zero e = omega (arith, e)
       at (suc b) e = omega (arith, e)
-  tally-end b (suc x) c n i e = absurd (omega arith)
+  tally_end b (suc x) c n i e = absurd (omega arith)
 
-  pub tally-more : (b w x v c n : ℕ) → 0 < b → w ≡ suc x → v ≡ next x → c + tally next p b w ≡ n → (c + bit (p x)) + tally next p (b - 1) v ≡ n
+  pub tally_more : (b w x v c n : ℕ) → 0 < b → w ≡ suc x → v ≡ next x → c + tally next p b w ≡ n → (c + bit (p x)) + tally next p (b - 1) v ≡ n
   unfolding tally
-  tally-more zero w x v c n h i q e = absurd (omega arith)
-  tally-more (suc b) zero x v c n h i q e = absurd (omega arith)
-  tally-more (suc b) (suc y) x v c n h i q e =
+  tally_more zero w x v c n h i q e = absurd (omega arith)
+  tally_more (suc b) zero x v c n h i q e = absurd (omega arith)
+  tally_more (suc b) (suc y) x v c n h i q e =
       let o : suc b - 1 ≡ b = omega arith in
       let j : y ≡ x = omega arith in
       let f : c + (bit (p x) + tally next p b (next x)) ≡ n = rw (← j) e in

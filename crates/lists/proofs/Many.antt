@@ -9,13 +9,13 @@ use lib.ListN.{length}
 use borrow.Author.Tests.{eqb-true, eqb-false}
 use Rattle.lists.specs.Sum.{sum}
 use Rattle.lists.specs.Walk.{Chain, slots, run, and_then, runs}
-use Rattle.lists.proofs.WalkLaws.{left-same, not_left, sound, complete, decode}
+use Rattle.lists.proofs.WalkLaws.{left_same, not_left, sound, complete, decode}
 use Rattle.lists.specs.declared.Rest.{Rest}
 use Rattle.lists.specs.declared.Rest.TheVariants.{Left, Bad}
 
-pub then-left : (r : Rest) (f : ℕ → Rest) {m : ℕ} → and_then r f ≡ Left m → (a : ℕ) × (r ≡ Left a) × (f a ≡ Left m)
-then-left (Left a) f e = (a, refl, e)
-then-left Bad f e = absurd (not_left e)
+pub then_left : (r : Rest) (f : ℕ → Rest) {m : ℕ} → and_then r f ≡ Left m → (a : ℕ) × (r ≡ Left a) × (f a ≡ Left m)
+then_left (Left a) f e = (a, refl, e)
+then_left Bad f e = absurd (not_left e)
 
 -- the slots that the lists of the nodes below m have together
 abbrev pub total : (ℕ → ℕ) → (ℕ → ℕ) → ℕ → ℕ → ℕ
@@ -27,9 +27,9 @@ module _ (next : ℕ → ℕ) (ok : ℕ → ℕ → ℕ → Bool) (fin : ℕ →
 
   pub sounds : (N b m : ℕ) → b ≤ n → runs next ok fin head N b ≡ Left m → ((k : ℕ) → k < N → ChainOf k) × (total next head n N + m ≡ b)
   unfolding runs sum
-  sounds zero b m l e = (λ k h. absurd (omega arith), omega (arith, left-same e))
+  sounds zero b m l e = (λ k h. absurd (omega arith), omega (arith, left_same e))
   sounds (suc j) b m l e =
-      let t = then-left (run next (ok j) (fin j) b 0 (head j)) (λ (a : ℕ). runs next ok fin head j a) e in
+      let t = then_left (run next (ok j) (fin j) b 0 (head j)) (λ (a : ℕ). runs next ok fin head j a) e in
       let s = sound next (ok j) (fin j) b 0 (head j) t.0 t.1 in
       let d = decode next (ok j) (fin j) n 0 (head j) (slots next b (head j)) s.0 (omega (arith, s.1)) in
       let r = sounds j t.0 m (omega (arith, s.1)) t.2 in

@@ -10,18 +10,18 @@ use lib.Seq.{get_or-set_same, get_or-set_other, set_out}
 use borrow.Author.Tests.{eqb-true, eqb-false, ltb-true, ltb-false}
 use Rattle.lists.specs.Sum.{occ}
 use Rattle.lists.specs.Once.{stamp}
-use Rattle.lists.proofs.SumLaws.{bit-true, bit-false, occ-nil, occ-cons}
+use Rattle.lists.proofs.SumLaws.{bit_true, bit_false, occ_nil, occ_cons}
 
 module _ (v d : ℕ) where
   -- what has the stamp, and had it not before, is in the list
-  pub stamped-sound : (s xs : List ℕ) → (get_or s d 0 ≡ v → ⊥) → get_or (stamp s v xs) d 0 ≡ v → 1 ≤ occ d xs
+  pub stamped_sound : (s xs : List ℕ) → (get_or s d 0 ≡ v → ⊥) → get_or (stamp s v xs) d 0 ≡ v → 1 ≤ occ d xs
   unfolding stamp
-  stamped-sound s [] n e = absurd (n e)
-  stamped-sound s (x ∷ xs) n e = at (λ f. stamped-sound (set s x v) xs (λ q. n (sym (get_or-set_other s x d v 0 f) ∙ q)) e) (eqb d x) refl
+  stamped_sound s [] n e = absurd (n e)
+  stamped_sound s (x ∷ xs) n e = at (λ f. stamped_sound (set s x v) xs (λ q. n (sym (get_or-set_other s x d v 0 f) ∙ q)) e) (eqb d x) refl
     where
       at : ((d ≡ x → ⊥) → 1 ≤ occ d xs) → (c : Bool) → eqb d x ≡ c → 1 ≤ occ d (x ∷ xs)
-      at rest true q = omega (arith, occ-cons d x xs, bit-true (eqb d x) q)
-      at rest false q = omega (arith, occ-cons d x xs, rest (eqb-false d x q))
+      at rest true q = omega (arith, occ_cons d x xs, bit_true (eqb d x) q)
+      at rest false q = omega (arith, occ_cons d x xs, rest (eqb-false d x q))
 
   -- a stamp stays
   stays : (s xs : List ℕ) → d < length s → get_or s d 0 ≡ v → get_or (stamp s v xs) d 0 ≡ v
@@ -33,23 +33,23 @@ module _ (v d : ℕ) where
       at true q = let i : d ≡ x = eqb-true d x q in rw (sym i) (get_or-set_same s d v 0 l)
       at false q = get_or-set_other s x d v 0 (eqb-false d x q) ∙ e
 
-  pub stamped-complete : (s xs : List ℕ) → d < length s → 1 ≤ occ d xs → get_or (stamp s v xs) d 0 ≡ v
+  pub stamped_complete : (s xs : List ℕ) → d < length s → 1 ≤ occ d xs → get_or (stamp s v xs) d 0 ≡ v
   unfolding stamp
-  stamped-complete s [] l h = absurd (omega (arith, occ-nil d))
-  stamped-complete s (x ∷ xs) l h =
+  stamped_complete s [] l h = absurd (omega (arith, occ_nil d))
+  stamped_complete s (x ∷ xs) l h =
       let k : d < length (set s x v) = omega (arith, length-set s x v) in
-      at (stamped-complete (set s x v) xs k) (λ e. stays (set s x v) xs k e) (eqb d x) refl
+      at (stamped_complete (set s x v) xs k) (λ e. stays (set s x v) xs k e) (eqb d x) refl
     where
       at : (1 ≤ occ d xs → get_or (stamp (set s x v) v xs) d 0 ≡ v) → (get_or (set s x v) d 0 ≡ v → get_or (stamp (set s x v) v xs) d 0 ≡ v)
           → (c : Bool) → eqb d x ≡ c → get_or (stamp (set s x v) v xs) d 0 ≡ v
       at rest keep true q = let i : d ≡ x = eqb-true d x q in keep (rw (sym i) (get_or-set_same s d v 0 l))
-      at rest keep false q = rest (omega (arith, occ-cons d x xs, bit-false (eqb d x) q))
+      at rest keep false q = rest (omega (arith, occ_cons d x xs, bit_false (eqb d x) q))
 
   -- no stamp is above v: so the next node's stamp, v + 1, is new everywhere
-  pub stamp-le : (s xs : List ℕ) → ((y : ℕ) → get_or s y 0 ≤ v) → (y : ℕ) → get_or (stamp s v xs) y 0 ≤ v
+  pub stamp_le : (s xs : List ℕ) → ((y : ℕ) → get_or s y 0 ≤ v) → (y : ℕ) → get_or (stamp s v xs) y 0 ≤ v
   unfolding stamp
-  stamp-le s [] h y = h y
-  stamp-le s (x ∷ xs) h y = stamp-le (set s x v) xs (λ z. at z (eqb z x) refl (ltb z (length s)) refl) y
+  stamp_le s [] h y = h y
+  stamp_le s (x ∷ xs) h y = stamp_le (set s x v) xs (λ z. at z (eqb z x) refl (ltb z (length s)) refl) y
     where
       at : (z : ℕ) (c : Bool) → eqb z x ≡ c → (b : Bool) → ltb z (length s) ≡ b → get_or (set s x v) z 0 ≤ v
       at z true q true o = let i : z ≡ x = eqb-true z x q in let g : get_or (set s x v) z 0 ≡ v = rw (sym i) (get_or-set_same s z v 0 (ltb-true z (length s) o)) in omega (arith, g)
@@ -60,7 +60,7 @@ module _ (v d : ℕ) where
           omega (arith, k, h z)
       at z false q b o = let g : get_or (set s x v) z 0 ≡ get_or s z 0 = get_or-set_other s x z v 0 (eqb-false z x q) in omega (arith, g, h z)
 
-pub length-stamp : (s : List ℕ) (v : ℕ) (xs : List ℕ) → length (stamp s v xs) ≡ length s
+pub length_stamp : (s : List ℕ) (v : ℕ) (xs : List ℕ) → length (stamp s v xs) ≡ length s
 unfolding stamp
-length-stamp s v [] = refl
-length-stamp s v (x ∷ xs) = length-stamp (set s x v) v xs ∙ length-set s x v
+length_stamp s v [] = refl
+length_stamp s v (x ∷ xs) = length_stamp (set s x v) v xs ∙ length-set s x v

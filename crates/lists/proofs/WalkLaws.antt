@@ -9,19 +9,19 @@ use lib.ListN.{length}
 use borrow.Author.Tests.{eqb-true}
 use Rattle.lists.specs.Sum.{occ, All}
 use Rattle.lists.specs.Walk.{Chain, slots, run}
-use Rattle.lists.proofs.SumLaws.{bit_le, bit-false, occ-nil, occ-cons}
+use Rattle.lists.proofs.SumLaws.{bit_le, bit_false, occ_nil, occ_cons}
 use Rattle.lists.specs.declared.Rest.{Rest}
 use Rattle.lists.specs.declared.Rest.TheVariants.{Left, Bad}
 
-pub left-same : {a b : ℕ} → Left a ≡ Left b → a ≡ b
-left-same e = cc
+pub left_same : {a b : ℕ} → Left a ≡ Left b → a ≡ b
+left_same e = cc
 
 pub not_left : {a : ℕ} → Bad ≡ Left a → ⊥
 not_left e = let z : ◌≡◌ {A = ℕ} 0 1 = cc in omega arith
 
-pub if-left : (c : Bool) (r : Rest) {m : ℕ} → elim c [ true ↦ r | false ↦ Bad ] ≡ Left m → (c ≡ true) × (r ≡ Left m)
-if-left true r e = (refl, e)
-if-left false r e = absurd (not_left e)
+pub if_left : (c : Bool) (r : Rest) {m : ℕ} → elim c [ true ↦ r | false ↦ Bad ] ≡ Left m → (c ≡ true) × (r ≡ Left m)
+if_left true r e = (refl, e)
+if_left false r e = absurd (not_left e)
 
 module _ (next : ℕ → ℕ) (ok : ℕ → ℕ → Bool) (fin : ℕ → Bool) where
   pub run_end : (b p : ℕ) → fin p ≡ true → run next ok fin b p 0 ≡ Left b
@@ -36,14 +36,14 @@ module _ (next : ℕ → ℕ) (ok : ℕ → ℕ → Bool) (fin : ℕ → Bool) w
   -- the walk passes only chains, and takes the chain's length off its budget
   pub sound : (b p w m : ℕ) → run next ok fin b p w ≡ Left m → Chain next ok fin p w (slots next b w) × (length (slots next b w) + m ≡ b)
   unfolding run slots
-  sound zero p zero m e = let r = if-left (fin p) (Left zero) e in ((refl, r.0), omega (arith, left-same r.1))
+  sound zero p zero m e = let r = if_left (fin p) (Left zero) e in ((refl, r.0), omega (arith, left_same r.1))
   sound zero p (suc x) m e = absurd (not_left e)
   sound (suc b) p zero m e =
-      let r = if-left (fin p) (Left (suc b)) e in
-      let q : suc b ≡ m = left-same r.1 in
+      let r = if_left (fin p) (Left (suc b)) e in
+      let q : suc b ≡ m = left_same r.1 in
       ((refl, r.0), omega arith)
   sound (suc b) p (suc x) m e =
-      let r = if-left (ok p x) (run next ok fin b (suc x) (next x)) e in
+      let r = if_left (ok p x) (run next ok fin b (suc x) (next x)) e in
       let s = sound b (suc x) (next x) m r.1 in
       ((refl, r.0, s.0), omega (arith, s.1))
 
@@ -80,7 +80,7 @@ module _ (next : ℕ → ℕ) (ok : ℕ → ℕ → Bool) (fin : ℕ → Bool) w
 
   -- from a slot of a chain a chain goes on that is no longer
   onward : (p w x : ℕ) (xs : List ℕ) → Chain next ok fin p w xs → 0 < occ x xs → (q : ℕ) × (ys : List ℕ) × Chain next ok fin q (suc x) ys × (length ys ≤ length xs)
-  onward p w x [] c h = absurd (omega (arith, occ-nil x))
+  onward p w x [] c h = absurd (omega (arith, occ_nil x))
   onward p w x (y ∷ ys) c h = at (onward (suc y) (next y) x ys c.2) (eqb x y) refl
     where
       at : (0 < occ x ys → (q : ℕ) × (zs : List ℕ) × Chain next ok fin q (suc x) zs × (length zs ≤ length ys)) → (b : Bool) → eqb x y ≡ b
@@ -90,12 +90,12 @@ module _ (next : ℕ → ℕ) (ok : ℕ → ℕ → Bool) (fin : ℕ → Bool) w
           let i : w ≡ suc x = omega (arith, c.0) in
           (p, y ∷ ys, subst (λ (z : ℕ). Chain next ok fin p z (y ∷ ys)) i c, omega arith)
       at rest false q =
-          let r = rest (omega (arith, occ-cons x y ys, bit-false (eqb x y) q)) in
+          let r = rest (omega (arith, occ_cons x y ys, bit_false (eqb x y) q)) in
           (r.0, r.1, r.2, omega (arith, r.3))
 
   -- NO REPEATS: a walk that comes to nothing met no slot twice, since what follows a slot is determined by it
   pub once : (p w : ℕ) (xs : List ℕ) → Chain next ok fin p w xs → (x : ℕ) → occ x xs ≤ 1
-  once p w [] c x = omega (arith, occ-nil x)
+  once p w [] c x = omega (arith, occ_nil x)
   once p w (y ∷ ys) c x = at (once (suc y) (next y) ys c.2 x) (eqb x y) refl
     where
       twice : x ≡ y → (k : ℕ) → occ x ys ≡ k → k ≤ 0
@@ -107,28 +107,28 @@ module _ (next : ℕ → ℕ) (ok : ℕ → ℕ → Bool) (fin : ℕ → Bool) w
           absurd (omega (arith, same_length r.0 p (suc x) r.1 (y ∷ ys) r.2 d, r.3))
 
       at : occ x ys ≤ 1 → (b : Bool) → eqb x y ≡ b → occ x (y ∷ ys) ≤ 1
-      at rest true q = omega (arith, occ-cons x y ys, bit_le (eqb x y), twice (eqb-true x y q) (occ x ys) refl)
-      at rest false q = omega (arith, occ-cons x y ys, bit-false (eqb x y) q)
+      at rest true q = omega (arith, occ_cons x y ys, bit_le (eqb x y), twice (eqb-true x y q) (occ x ys) refl)
+      at rest false q = omega (arith, occ_cons x y ys, bit_false (eqb x y) q)
 
   -- the ways through one turn of the code, over words
-  pub run-done : (b p w : ℕ) → w ≡ 0 → fin p ≡ true → run next ok fin b p w ≡ Left b
-  run-done b p w e f = rw e (run_end b p f)
+  pub run_done : (b p w : ℕ) → w ≡ 0 → fin p ≡ true → run next ok fin b p w ≡ Left b
+  run_done b p w e f = rw e (run_end b p f)
 
-  pub run-wrong : (b p w : ℕ) → w ≡ 0 → fin p ≡ false → run next ok fin b p w ≡ Bad
+  pub run_wrong : (b p w : ℕ) → w ≡ 0 → fin p ≡ false → run next ok fin b p w ≡ Bad
   unfolding run
-  run-wrong zero p w e f = rw e (rw (f, run))
-  run-wrong (suc b) p w e f = rw e (rw (f, run))
+  run_wrong zero p w e f = rw e (rw (f, run))
+  run_wrong (suc b) p w e f = rw e (rw (f, run))
 
   pub run_out : (b p w : ℕ) → (w ≡ 0 → ⊥) → b ≡ 0 → run next ok fin b p w ≡ Bad
   unfolding run
   run_out b p zero h e = absurd (h refl)
   run_out b p (suc x) h e = rw e
 
-  pub run-bad : (b p w : ℕ) → (w ≡ 0 → ⊥) → (b ≡ 0 → ⊥) → ok p (w - 1) ≡ false → run next ok fin b p w ≡ Bad
+  pub run_bad : (b p w : ℕ) → (w ≡ 0 → ⊥) → (b ≡ 0 → ⊥) → ok p (w - 1) ≡ false → run next ok fin b p w ≡ Bad
   unfolding run
-  run-bad b p zero h g e = absurd (h refl)
-  run-bad zero p (suc x) h g e = absurd (g refl)
-  run-bad (suc b) p (suc x) h g e =
+  run_bad b p zero h g e = absurd (h refl)
+  run_bad zero p (suc x) h g e = absurd (g refl)
+  run_bad (suc b) p (suc x) h g e =
       let m : suc x - 1 ≡ x = omega arith in
       let f : ok p x ≡ false = rw m at e in
       rw (f, run)
@@ -143,9 +143,9 @@ module _ (next : ℕ → ℕ) (ok : ℕ → ℕ → Bool) (fin : ℕ → Bool) w
       rw (m, n) (run_step b p x f)
 
 -- where the tests do not look at the word before, it does not matter
-pub run-blind : (next : ℕ → ℕ) (ok : ℕ → Bool) (b p q w : ℕ) → run next (λ (p x : ℕ). ok x) (λ (p : ℕ). true) b p w ≡ run next (λ (p x : ℕ). ok x) (λ (p : ℕ). true) b q w
+pub run_blind : (next : ℕ → ℕ) (ok : ℕ → Bool) (b p q w : ℕ) → run next (λ (p x : ℕ). ok x) (λ (p : ℕ). true) b p w ≡ run next (λ (p x : ℕ). ok x) (λ (p : ℕ). true) b q w
 unfolding run
-run-blind next ok zero p q zero = refl
-run-blind next ok zero p q (suc x) = refl
-run-blind next ok (suc b) p q zero = refl
-run-blind next ok (suc b) p q (suc x) = refl
+run_blind next ok zero p q zero = refl
+run_blind next ok zero p q (suc x) = refl
+run_blind next ok (suc b) p q zero = refl
+run_blind next ok (suc b) p q (suc x) = refl

@@ -36,6 +36,6 @@ leaves (Left a) m = eqb a m
 leaves Bad m = false
 
 -- it leaves a number that passes f
-abbrev pub onLeft : Rest → (ℕ → Bool) → Bool
-onLeft (Left m) f = f m
-onLeft Bad f = false
+abbrev pub on_left : Rest → (ℕ → Bool) → Bool
+on_left (Left m) f = f m
+on_left Bad f = false

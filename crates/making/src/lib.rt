@@ -1,8 +1,8 @@
 // The making of nodes. A new node has the next number, and its formula the next cells. After the constructors of Signal, Computed, Effect and EffectScope in lib.rs.
 ghost use Rattle.std.specs.Prelude.{◌≡◌, List, ℕ, ◌+◌, ℤ, set};
 ghost use Rattle.reading.specs.Tables.{state};
-ghost use Rattle.operating.specs.Log.{ranTo};
-ghost use Rattle.operating.specs.Making.{hasRoom, described, valued, laid, made, make, owned, newSignal, newComputed, newScope, started, newEffect};
+ghost use Rattle.operating.specs.Log.{ran_to};
+ghost use Rattle.operating.specs.Making.{has_room, described, valued, laid, made, make, owned, new_signal, new_computed, new_scope, started, new_effect};
 
 use counts::depths::depth_under;
 use flags::Flags;
@@ -24,7 +24,7 @@ use version::Version;
 
 // Whether there is a row for one more node, and room for this many cells.
 fn has_room(nodes: &[u64], cells: &[i64], size: u64) -> bool
-    ensures { result ≡ hasRoom nodes.now cells.now size }
+    ensures { result ≡ has_room nodes.now cells.now size }
 {
     let rows = (nodes.len() / 16) as u64;
     let room = (cells.len() / 2) as u64;
@@ -127,7 +127,7 @@ fn own(nodes: &mut [u64], links: &mut [u64], n: u64, owner: u64)
 
 // A signal whose two values are v. It takes no cells.
 pub fn new_signal(nodes: &mut [u64], values: &mut [i64], cells: &mut [i64], v: Value) -> u64
-    ensures { (l : List ℕ) → made result (state nodes.new l values.new) cells.new ≡ newSignal (state nodes.old l values.old) cells.old v }
+    ensures { (l : List ℕ) → made result (state nodes.new l values.new) cells.new ≡ new_signal (state nodes.old l values.old) cells.old v }
 {
     let sort = Sort {
         kind: SIGNAL,
@@ -145,7 +145,7 @@ pub fn new_computed(
     cells: &mut [i64],
     formula: &[i64],
 ) -> u64
-    ensures { (l : List ℕ) → made result (state nodes.new l values.new) cells.new ≡ newComputed (state nodes.old l values.old) cells.old formula.now }
+    ensures { (l : List ℕ) → made result (state nodes.new l values.new) cells.new ≡ new_computed (state nodes.old l values.old) cells.old formula.now }
 {
     let sort = Sort {
         kind: COMPUTED,
@@ -163,7 +163,7 @@ pub fn new_scope(
     cells: &mut [i64],
     owner: u64,
 ) -> u64
-    ensures { made result (state nodes.new links.new values.new) cells.new ≡ newScope (state nodes.old links.old values.old) cells.old owner }
+    ensures { made result (state nodes.new links.new values.new) cells.new ≡ new_scope (state nodes.old links.old values.old) cells.old owner }
 {
     let sort = Sort {
         kind: SCOPE,
@@ -193,7 +193,7 @@ pub fn new_effect(
     owner: u64,
     formula: &[i64],
 ) -> Started
-    ensures { started result.number (ranTo (state nodes.new links.new values.new) log.new result.rows) cells.new ≡ newEffect (state nodes.old links.old values.old) cells.old log.old owner formula.now }
+    ensures { started result.number (ran_to (state nodes.new links.new values.new) log.new result.rows) cells.new ≡ new_effect (state nodes.old links.old values.old) cells.old log.old owner formula.now }
 {
     let sort = Sort {
         kind: EFFECT,

@@ -5,9 +5,9 @@ use mathlib.Core.Bool.{Bool, true, false}
 use Prim.Native.Nat.{ℕ, ◌<◌}
 use native.Mathlib.Omega.{arith}
 use lib.Bits.{bit_or}
-use Rattle.flags.proofs.FlagLaws.{every, every-at}
+use Rattle.flags.proofs.FlagLaws.{every, every_at}
 use Rattle.marking.specs.Fields.{pending, busy, changed, marked, lacks}
-use Rattle.marking.specs.Visits.{visitOf}
+use Rattle.marking.specs.Visits.{visit_of}
 use Rattle.marking.specs.Visits.Visit.{Skip, Mark}
 
 -- where b holds, c and d are the same
@@ -29,12 +29,12 @@ four : every (λ (f : ℕ). alike (lacks f busy) (lacks f marked) (lacks f chang
 unfolding lacks alike
 four = refl
 
-pub visit-at-rest : (f : ℕ) (v : Bool) → f < 256 → lacks f busy ≡ true
-    → visitOf f v ≡ elim (lacks f changed) [ true ↦ Mark (bit_or f pending) f | false ↦ Skip ]
-unfolding visitOf
-visit-at-rest f v l h =
-    go (lacks f changed) refl (alike_same (lacks f busy) (lacks f marked) (lacks f changed) (every-at (λ (f : ℕ). alike (lacks f busy) (lacks f marked) (lacks f changed)) 256 four f l) h)
+pub visit_at_rest : (f : ℕ) (v : Bool) → f < 256 → lacks f busy ≡ true
+    → visit_of f v ≡ elim (lacks f changed) [ true ↦ Mark (bit_or f pending) f | false ↦ Skip ]
+unfolding visit_of
+visit_at_rest f v l h =
+    go (lacks f changed) refl (alike_same (lacks f busy) (lacks f marked) (lacks f changed) (every_at (λ (f : ℕ). alike (lacks f busy) (lacks f marked) (lacks f changed)) 256 four f l) h)
   where
-    go : (b : Bool) → lacks f changed ≡ b → lacks f marked ≡ b → visitOf f v ≡ elim (lacks f changed) [ true ↦ Mark (bit_or f pending) f | false ↦ Skip ]
-    go true p q = rw (p, q, visitOf)
-    go false p q = rw (p, q, visitOf, h)
+    go : (b : Bool) → lacks f changed ≡ b → lacks f marked ≡ b → visit_of f v ≡ elim (lacks f changed) [ true ↦ Mark (bit_or f pending) f | false ↦ Skip ]
+    go true p q = rw (p, q, visit_of)
+    go false p q = rw (p, q, visit_of, h)

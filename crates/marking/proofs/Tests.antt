@@ -4,17 +4,17 @@ use mathlib.Core.Bool.{Bool, not}
 use Prim.Native.Nat.{ℕ}
 use lib.Bits.{bit_and}
 use lib.Dec.{eqb}
-use Rattle.marking.specs.Fields.{has, lacks, hasOnly}
+use Rattle.marking.specs.Fields.{has, lacks, has_only}
 
 module _ (f k : ℕ) {m : ℕ} {b t : Bool} (e : m ≡ bit_and f k) where
-  pub masked-zero : b ≡ eqb m 0 → b ≡ t → lacks f k ≡ t
+  pub masked_zero : b ≡ eqb m 0 → b ≡ t → lacks f k ≡ t
   unfolding lacks
-  masked-zero u v = sym (u ∙ ap (λ (x : ℕ). eqb x 0) e) ∙ v
+  masked_zero u v = sym (u ∙ ap (λ (x : ℕ). eqb x 0) e) ∙ v
 
-  pub masked-nonzero : b ≡ not (eqb m 0) → b ≡ t → has f k ≡ t
+  pub masked_nonzero : b ≡ not (eqb m 0) → b ≡ t → has f k ≡ t
   unfolding has
-  masked-nonzero u v = sym (u ∙ ap (λ (x : ℕ). not (eqb x 0)) e) ∙ v
+  masked_nonzero u v = sym (u ∙ ap (λ (x : ℕ). not (eqb x 0)) e) ∙ v
 
-  pub masked_same : (j : ℕ) → b ≡ eqb m j → b ≡ t → hasOnly f k j ≡ t
-  unfolding hasOnly
+  pub masked_same : (j : ℕ) → b ≡ eqb m j → b ≡ t → has_only f k j ≡ t
+  unfolding has_only
   masked_same j u v = sym (u ∙ ap (λ (x : ℕ). eqb x j) e) ∙ v

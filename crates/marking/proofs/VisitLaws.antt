@@ -4,44 +4,44 @@ use mathlib.Core.Bool.{true, false}
 use mathlib.Core.List.{List}
 use Prim.Native.Nat.{ℕ}
 use lib.Bits.{bit_and, bit_or}
-use Rattle.marking.specs.Fields.{flags_of, set_flags, none, mutable, watching, recursedCheck, recursed, pending, busy, changed, marked, has, lacks, without}
+use Rattle.marking.specs.Fields.{flags_of, set_flags, none, mutable, watching, recursed_checking, recursed, pending, busy, changed, marked, has, lacks, without}
 use Rattle.marking.specs.Notify.{notified}
-use Rattle.marking.specs.Valid.{validLink}
-use Rattle.marking.specs.Visits.{Visit, visitOf, visit, after, stored, reached}
+use Rattle.marking.specs.Valid.{valid_link}
+use Rattle.marking.specs.Visits.{Visit, visit_of, visit, after, stored, reached}
 use Rattle.marking.specs.Visits.Visit.{Skip, Mark}
 
 -- f is the flag byte of node n, and v whether slot s is a valid link of it
 module _ (L N : List ℕ) (s n : ℕ) {f : ℕ} (g : f ≡ flags_of N n) where
-  seen : visit L N s n ≡ visitOf f (validLink L N s n)
+  seen : visit L N s n ≡ visit_of f (valid_link L N s n)
   unfolding visit
   seen = rw (← g)
 
-  pub visit-clean : lacks f marked ≡ true → visit L N s n ≡ Mark (bit_or f pending) f
-  unfolding visitOf
-  visit-clean a = seen ∙ rw (a, visitOf)
+  pub visit_clean : lacks f marked ≡ true → visit L N s n ≡ Mark (bit_or f pending) f
+  unfolding visit_of
+  visit_clean a = seen ∙ rw (a, visit_of)
 
   module _ (a : lacks f marked ≡ false) where
-    pub visit-marked : lacks f busy ≡ true → visit L N s n ≡ Skip
-    unfolding visitOf
-    visit-marked b = seen ∙ rw (a, visitOf, b)
+    pub visit_marked : lacks f busy ≡ true → visit L N s n ≡ Skip
+    unfolding visit_of
+    visit_marked b = seen ∙ rw (a, visit_of, b)
 
     module _ (b : lacks f busy ≡ false) where
-      pub visit-recursed : lacks f recursedCheck ≡ true → visit L N s n ≡ Mark (bit_or (without f recursed) pending) f
-      unfolding visitOf
-      visit-recursed c = seen ∙ rw (a, visitOf, b, c)
+      pub visit_recursed : lacks f recursed_checking ≡ true → visit L N s n ≡ Mark (bit_or (without f recursed) pending) f
+      unfolding visit_of
+      visit_recursed c = seen ∙ rw (a, visit_of, b, c)
 
-      module _ (c : lacks f recursedCheck ≡ false) where
-        pub visit-changed : lacks f changed ≡ false → visit L N s n ≡ Skip
-        unfolding visitOf
-        visit-changed d = seen ∙ rw (a, visitOf, b, c, d)
+      module _ (c : lacks f recursed_checking ≡ false) where
+        pub visit_changed : lacks f changed ≡ false → visit L N s n ≡ Skip
+        unfolding visit_of
+        visit_changed d = seen ∙ rw (a, visit_of, b, c, d)
 
-        pub visit-stray : lacks f changed ≡ true → validLink L N s n ≡ false → visit L N s n ≡ Skip
-        unfolding visitOf
-        visit-stray d v = seen ∙ rw (a, visitOf, b, c, d, v)
+        pub visit_stray : lacks f changed ≡ true → valid_link L N s n ≡ false → visit L N s n ≡ Skip
+        unfolding visit_of
+        visit_stray d v = seen ∙ rw (a, visit_of, b, c, d, v)
 
-        pub visit-valid : lacks f changed ≡ true → validLink L N s n ≡ true → visit L N s n ≡ Mark (bit_or f (bit_or recursed pending)) (bit_and f mutable)
-        unfolding visitOf
-        visit-valid d v = seen ∙ rw (a, visitOf, b, c, d, v)
+        pub visit_valid : lacks f changed ≡ true → valid_link L N s n ≡ true → visit L N s n ≡ Mark (bit_or f (bit_or recursed pending)) (bit_and f mutable)
+        unfolding visit_of
+        visit_valid d v = seen ∙ rw (a, visit_of, b, c, d, v)
 
 -- what is left of a visit, and what it stores
 module _ (N : List ℕ) (n : ℕ) {d : Visit} {r : ℕ} {M : List ℕ} where
@@ -55,10 +55,10 @@ module _ (N : List ℕ) (n : ℕ) {d : Visit} {r : ℕ} {M : List ℕ} where
 
 -- f is what a visit leaves, and M what it makes of the tables
 module _ (L N : List ℕ) (s n : ℕ) {f : ℕ} {M : List ℕ} (g : f ≡ after (visit L N s n)) (e : M ≡ stored N n (visit L N s n)) where
-  pub reach-wakes : has f watching ≡ true → reached L N s n ≡ notified L M n
+  pub reach_wakes : has f watching ≡ true → reached L N s n ≡ notified L M n
   unfolding reached
-  reach-wakes t = rw (← g, t, reached, ← e)
+  reach_wakes t = rw (← g, t, reached, ← e)
 
-  pub reach-rests : has f watching ≡ false → reached L N s n ≡ M
+  pub reach_rests : has f watching ≡ false → reached L N s n ≡ M
   unfolding reached
-  reach-rests t = rw (← g, t, reached, ← e)
+  reach_rests t = rw (← g, t, reached, ← e)

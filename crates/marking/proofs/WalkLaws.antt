@@ -8,33 +8,33 @@ use native.Mathlib.Omega.{arith}
 use lib.ListN.{get_or, set, replicate}
 use lib.Seq.{set-get_or}
 use Rattle.primitive.specs.Slots.{slot_of}
-use Rattle.stack.specs.Stack.{pushed, pushedLen, popped}
+use Rattle.stack.specs.Stack.{pushed, pushed_len, popped}
 use Rattle.primitive.specs.declared.slots.Slot.{Slot}
 use Rattle.primitive.specs.declared.slots.Slot.TheVariants.{At, Nothing}
 use Rattle.stack.specs.declared.Popped.{Popped}
 use Rattle.stack.specs.declared.Popped.TheVariants.{Top, Empty}
-use Rattle.marking.specs.Fields.{subs, sub, nextSub, mutable, has}
+use Rattle.marking.specs.Fields.{subs, sub, next_sub_of, mutable, has}
 use Rattle.marking.specs.Visits.{visit, after, reached}
 use Rattle.marking.specs.Walks.{Place, place, Rest, below, down, back, along, onward, turn, walked}
 
 -- ---- where the way goes down
 module _ (N : List ℕ) (n f : ℕ) where
-  pub below-open : {w : ℕ} {o : Slot} → has f mutable ≡ true → w ≡ subs N n → o ≡ slot_of w → o ≡ below N n f
+  pub below_open : {w : ℕ} {o : Slot} → has f mutable ≡ true → w ≡ subs N n → o ≡ slot_of w → o ≡ below N n f
   unfolding below
-  below-open t p u = rw (t, below, ← p, ← u)
+  below_open t p u = rw (t, below, ← p, ← u)
 
-  pub below-shut : has f mutable ≡ false → Nothing ≡ below N n f
+  pub below_shut : has f mutable ≡ false → Nothing ≡ below N n f
   unfolding below
-  below-shut t = rw (t, below)
+  below_shut t = rw (t, below)
 
-module _ (L : List ℕ) (w : Place) (x : ℕ) {v : ℕ} {o : Slot} (p : v ≡ nextSub L x) (u : o ≡ slot_of v) where
-  pub down-push : {y : ℕ} → o ≡ At y → down L w x ≡ place x v (pushed w.stack w.len w.next) (pushedLen w.stack w.len)
+module _ (L : List ℕ) (w : Place) (x : ℕ) {v : ℕ} {o : Slot} (p : v ≡ next_sub_of L x) (u : o ≡ slot_of v) where
+  pub down_push : {y : ℕ} → o ≡ At y → down L w x ≡ place x v (pushed w.stack w.len w.next) (pushed_len w.stack w.len)
   unfolding down
-  down-push d = rw (← p, ← u, d, down, ← p)
+  down_push d = rw (← p, ← u, d, down, ← p)
 
-  pub down-flat : o ≡ Nothing → down L w x ≡ place x w.next w.stack w.len
+  pub down_flat : o ≡ Nothing → down L w x ≡ place x w.next w.stack w.len
   unfolding down
-  down-flat d = rw (← p, ← u, d, down)
+  down_flat d = rw (← p, ← u, d, down)
 
 -- ---- a turn
 pub walk_end : (L N : List ℕ) (k : ℕ) (w : Place) → k ≤ 0 → walked L k N w ≡ N
@@ -53,23 +53,23 @@ module _ (L N : List ℕ) (k : ℕ) (w : Place) {n f : ℕ} {M : List ℕ} {o : 
       go zero h = absurd (omega arith)
       go (suc k) h = rw (sub-one (suc k))
 
-  pub turn-down : {x : ℕ} → o ≡ At x → walked L k N w ≡ walked L (k - 1) M (down L w x)
+  pub turn_down : {x : ℕ} → o ≡ At x → walked L k N w ≡ walked L (k - 1) M (down L w x)
   unfolding onward
-  turn-down d = turned ∙ rw d
+  turn_down d = turned ∙ rw d
 
-  pub turn-flat : {v : Slot} → o ≡ Nothing → v ≡ slot_of w.next → walked L k N w ≡ along (walked L (k - 1)) L M w v
+  pub turn_flat : {v : Slot} → o ≡ Nothing → v ≡ slot_of w.next → walked L k N w ≡ along (walked L (k - 1)) L M w v
   unfolding onward
-  turn-flat d e = turned ∙ rw (d, ← e)
+  turn_flat d e = turned ∙ rw (d, ← e)
 
 -- ---- along and back; p is the rest of the walk
 module _ (p : Rest) (L N : List ℕ) where
-  pub along-slot : (w : Place) {x v : ℕ} {o : Slot} → o ≡ At x → v ≡ nextSub L x → along p L N w o ≡ p N (place x v w.stack w.len)
+  pub along_slot : (w : Place) {x v : ℕ} {o : Slot} → o ≡ At x → v ≡ next_sub_of L x → along p L N w o ≡ p N (place x v w.stack w.len)
   unfolding along
-  along-slot w d e = rw (d, ← e)
+  along_slot w d e = rw (d, ← e)
 
-  pub along-none : (w : Place) {o : Slot} → o ≡ Nothing → along p L N w o ≡ back p L N w.stack w.len
+  pub along_none : (w : Place) {o : Slot} → o ≡ Nothing → along p L N w o ≡ back p L N w.stack w.len
   unfolding along
-  along-none w d = rw d
+  along_none w d = rw d
 
   module _ (A : List ℕ) where
     pub back_end : (len : ℕ) {t : Popped} → t ≡ popped A len → t ≡ Empty → back p L N A len ≡ N
@@ -77,11 +77,11 @@ module _ (p : Rest) (L N : List ℕ) where
     back_end zero e d = refl
     back_end (suc n) e d = let z : ◌≡◌ {A = ℕ} 0 1 = cc in absurd (omega arith)
 
-    pub back-slot : (len : ℕ) {t : Popped} {w rest x v : ℕ} {o : Slot} → t ≡ popped A len → t ≡ Top w rest → o ≡ slot_of w → o ≡ At x → v ≡ nextSub L x
+    pub back_slot : (len : ℕ) {t : Popped} {w rest x v : ℕ} {o : Slot} → t ≡ popped A len → t ≡ Top w rest → o ≡ slot_of w → o ≡ At x → v ≡ next_sub_of L x
         → back p L N A len ≡ p N (place x v A rest)
     unfolding back popped
-    back-slot zero e d u g i = let z : ◌≡◌ {A = ℕ} 0 1 = cc in absurd (omega arith)
-    back-slot (suc n) {t} {w} {rest} e d u g i =
+    back_slot zero e d u g i = let z : ◌≡◌ {A = ℕ} 0 1 = cc in absurd (omega arith)
+    back_slot (suc n) {t} {w} {rest} e d u g i =
         let a : w ≡ get_or A n 0 = cc in
         let b : rest ≡ n = cc in
         rw (← a, ← u, g, back, ← i, b)
@@ -96,10 +96,10 @@ module _ (p : Rest) (L N : List ℕ) where
         rw (← a, ← u, g, back, b)
 
 -- a pop leaves fewer
-pub pop-less : (A : List ℕ) (len : ℕ) {t : Popped} {w rest : ℕ} → t ≡ popped A len → t ≡ Top w rest → rest < len
+pub pop_less : (A : List ℕ) (len : ℕ) {t : Popped} {w rest : ℕ} → t ≡ popped A len → t ≡ Top w rest → rest < len
 unfolding popped
-pop-less A zero e d = let z : ◌≡◌ {A = ℕ} 0 1 = cc in absurd (omega arith)
-pop-less A (suc n) {t} {w} {rest} e d = let b : rest ≡ n = cc in omega arith
+pop_less A zero e d = let z : ◌≡◌ {A = ℕ} 0 1 = cc in absurd (omega arith)
+pop_less A (suc n) {t} {w} {rest} e d = let b : rest ≡ n = cc in omega arith
 
 -- ---- a stack of nothing: one more on it changes no word, and from it no way goes back
 clear : (k x : ℕ) → ◌≡◌ {A = ℕ} (get_or {A = ℕ} (replicate k 0) x 0) 0
@@ -107,11 +107,11 @@ clear zero x = refl
 clear (suc k) zero = refl
 clear (suc k) (suc x) = clear k x
 
-pub push-nothing : (k len : ℕ) → pushed (replicate k 0) len 0 ≡ replicate k 0
-push-nothing k len = ap (λ (w : ℕ). set {A = ℕ} (replicate k 0) len w) (sym (clear k len)) ∙ set-get_or (replicate k 0) len 0
+pub push_nothing : (k len : ℕ) → pushed (replicate k 0) len 0 ≡ replicate k 0
+push_nothing k len = ap (λ (w : ℕ). set {A = ℕ} (replicate k 0) len w) (sym (clear k len)) ∙ set-get_or (replicate k 0) len 0
 
-pub back-nothing : (p : Rest) (L N : List ℕ) (k len : ℕ) → back p L N (replicate k 0) len ≡ N
+pub back_nothing : (p : Rest) (L N : List ℕ) (k len : ℕ) → back p L N (replicate k 0) len ≡ N
 unfolding back
-back-nothing p L N k zero = refl
-back-nothing p L N k (suc n) =
-    subst (λ (w : ℕ). elim (slot_of w) [ At x ↦ p N (place x (nextSub L x) (replicate k 0) n) | Nothing ↦ back p L N (replicate k 0) n ] ≡ N) (sym (clear k n)) (back-nothing p L N k n)
+back_nothing p L N k zero = refl
+back_nothing p L N k (suc n) =
+    subst (λ (w : ℕ). elim (slot_of w) [ At x ↦ p N (place x (next_sub_of L x) (replicate k 0) n) | Nothing ↦ back p L N (replicate k 0) n ] ≡ N) (sym (clear k n)) (back_nothing p L N k n)

@@ -1,17 +1,17 @@
 -- The words of nodes and links that the walks look at, and the bits of the flag byte by name. N is a node table, L a link table.
 use Rattle.std.specs.Prelude.{ℕ, ◌-◌, ◌%◌, Bool, not, List, eqb}
 use Rattle.std.specs.Int.Bits.{bit_and, bit_or}
-use Rattle.primitive.specs.Words.{FLAGS, DEPS-TAIL, SUBS, SUB, NEXT-SUB, PREV-DEP, node, setNode, link}
+use Rattle.primitive.specs.Words.{FLAGS, DEPS-TAIL, SUBS, SUB, NEXT-SUB, PREV-DEP, node, set_node, link}
 
 -- words of a node
 abbrev pub flags_of : List ℕ → ℕ → ℕ
 flags_of N n = node N n FLAGS % 256
 
 abbrev pub set_flags : List ℕ → ℕ → ℕ → List ℕ
-set_flags N n f = setNode N n FLAGS f
+set_flags N n f = set_node N n FLAGS f
 
-abbrev pub depsTail : List ℕ → ℕ → ℕ
-depsTail N n = node N n DEPS-TAIL
+abbrev pub deps_tail : List ℕ → ℕ → ℕ
+deps_tail N n = node N n DEPS-TAIL
 
 abbrev pub subs : List ℕ → ℕ → ℕ
 subs N n = node N n SUBS
@@ -20,11 +20,11 @@ subs N n = node N n SUBS
 abbrev pub sub : List ℕ → ℕ → ℕ
 sub L s = link L s SUB
 
-abbrev pub nextSub : List ℕ → ℕ → ℕ
-nextSub L s = link L s NEXT-SUB
+abbrev pub next_sub_of : List ℕ → ℕ → ℕ
+next_sub_of L s = link L s NEXT-SUB
 
-abbrev pub prevDep : List ℕ → ℕ → ℕ
-prevDep L s = link L s PREV-DEP
+abbrev pub prev_dep_of : List ℕ → ℕ → ℕ
+prev_dep_of L s = link L s PREV-DEP
 
 -- bits of the flag byte
 abbrev pub none : ℕ
@@ -36,8 +36,8 @@ mutable = 1
 abbrev pub watching : ℕ
 watching = 2
 
-abbrev pub recursedCheck : ℕ
-recursedCheck = 4
+abbrev pub recursed_checking : ℕ
+recursed_checking = 4
 
 abbrev pub recursed : ℕ
 recursed = 8
@@ -50,7 +50,7 @@ pending = 32
 
 -- bits that are tested together
 abbrev pub busy : ℕ
-busy = bit_or recursedCheck recursed
+busy = bit_or recursed_checking recursed
 
 abbrev pub changed : ℕ
 changed = bit_or dirty pending
@@ -67,8 +67,8 @@ unfoldable pub lacks : ℕ → ℕ → Bool
 lacks f m = eqb (bit_and f m) 0
 
 -- of the bits of m, f has j and no other
-unfoldable pub hasOnly : ℕ → ℕ → ℕ → Bool
-hasOnly f m j = eqb (bit_and f m) j
+unfoldable pub has_only : ℕ → ℕ → ℕ → Bool
+has_only f m j = eqb (bit_and f m) j
 
 -- f without the bits of m
 abbrev pub without : ℕ → ℕ → ℕ

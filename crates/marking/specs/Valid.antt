@@ -3,18 +3,18 @@ use Rattle.std.specs.Prelude.{ℕ, zero, suc, Bool, true, false, List, eqb}
 use Rattle.primitive.specs.Slots.{slot_of}
 use Rattle.primitive.specs.declared.slots.Slot.{Slot}
 use Rattle.primitive.specs.declared.slots.Slot.TheVariants.{At, Nothing}
-use Rattle.primitive.specs.Words.{linkRows}
-use Rattle.marking.specs.Fields.{depsTail, prevDep}
+use Rattle.primitive.specs.Words.{link_rows}
+use Rattle.marking.specs.Fields.{deps_tail, prev_dep_of}
 
 -- p is the rest of the walk
-unfoldable pub validAt : (ℕ → Bool) → List ℕ → ℕ → Slot → Bool
-validAt p L s Nothing = false
-validAt p L s (At x) = elim (eqb x s) [ true ↦ true | false ↦ p (prevDep L x) ]
+unfoldable pub valid_at : (ℕ → Bool) → List ℕ → ℕ → Slot → Bool
+valid_at p L s Nothing = false
+valid_at p L s (At x) = elim (eqb x s) [ true ↦ true | false ↦ p (prev_dep_of L x) ]
 
 -- from the word w, at most k links
-unfoldable pub validFrom : List ℕ → ℕ → ℕ → ℕ → Bool
-validFrom L s zero w = false
-validFrom L s (suc k) w = validAt (validFrom L s k) L s (slot_of w)
+unfoldable pub valid_from : List ℕ → ℕ → ℕ → ℕ → Bool
+valid_from L s zero w = false
+valid_from L s (suc k) w = valid_at (valid_from L s k) L s (slot_of w)
 
-unfoldable pub validLink : List ℕ → List ℕ → ℕ → ℕ → Bool
-validLink L N s n = validFrom L s (linkRows L) (depsTail N n)
+unfoldable pub valid_link : List ℕ → List ℕ → ℕ → ℕ → Bool
+valid_link L N s n = valid_from L s (link_rows L) (deps_tail N n)

@@ -1,9 +1,9 @@
 -- What propagate does at a subscriber: the Rust's five branches over the flag byte, then notify.
 use Rattle.std.specs.Prelude.{ℕ, Bool, true, false, ◌&&◌, List}
 use Rattle.std.specs.Int.Bits.{bit_and, bit_or}
-use Rattle.marking.specs.Fields.{flags_of, set_flags, none, mutable, watching, recursedCheck, recursed, pending, busy, changed, marked, has, lacks, without}
+use Rattle.marking.specs.Fields.{flags_of, set_flags, none, mutable, watching, recursed_checking, recursed, pending, busy, changed, marked, has, lacks, without}
 use Rattle.marking.specs.Notify.{notified}
-use Rattle.marking.specs.Valid.{validLink}
+use Rattle.marking.specs.Valid.{valid_link}
 
 pub data Visit : Type 0 where
   -- nothing is stored, and no flags are left
@@ -12,13 +12,13 @@ pub data Visit : Type 0 where
   Mark : ℕ → ℕ → Visit
 
 -- f is the flag byte, v whether the link is valid
-unfoldable pub visitOf : ℕ → Bool → Visit
-visitOf f v =
+unfoldable pub visit_of : ℕ → Bool → Visit
+visit_of f v =
     elim (lacks f marked) [
       | true ↦ Mark (bit_or f pending) f
       | false ↦ elim (lacks f busy) [
         | true ↦ Skip
-        | false ↦ elim (lacks f recursedCheck) [
+        | false ↦ elim (lacks f recursed_checking) [
           | true ↦ Mark (bit_or (without f recursed) pending) f
           | false ↦ elim (lacks f changed && v) [
             | true ↦ Mark (bit_or f (bit_or recursed pending)) (bit_and f mutable)
@@ -29,7 +29,7 @@ visitOf f v =
     ]
 
 unfoldable pub visit : List ℕ → List ℕ → ℕ → ℕ → Visit
-visit L N s n = visitOf (flags_of N n) (validLink L N s n)
+visit L N s n = visit_of (flags_of N n) (valid_link L N s n)
 
 -- the flags that are left
 unfoldable pub after : Visit → ℕ

@@ -1,11 +1,11 @@
 -- propagate: the walk down, along and back over subscriber links, on a budget of turns. N is the node table, L the link table.
 use Rattle.std.specs.Prelude.{ℕ, zero, suc, true, false, List, get_or, replicate}
 use Rattle.primitive.specs.Slots.{slot_of}
-use Rattle.stack.specs.Stack.{pushed, pushedLen}
+use Rattle.stack.specs.Stack.{pushed, pushed_len}
 use Rattle.primitive.specs.declared.slots.Slot.{Slot}
 use Rattle.primitive.specs.declared.slots.Slot.TheVariants.{At, Nothing}
-use Rattle.primitive.specs.Words.{linkRows}
-use Rattle.marking.specs.Fields.{subs, sub, nextSub, mutable, has}
+use Rattle.primitive.specs.Words.{link_rows}
+use Rattle.marking.specs.Fields.{subs, sub, next_sub_of, mutable, has}
 use Rattle.marking.specs.Visits.{visit, after, reached}
 
 -- where the walk is: the slot, the word that comes next, and the words left aside on the way down
@@ -29,19 +29,19 @@ below N n f = elim (has f mutable) [ true ↦ slot_of (subs N n) | false ↦ Not
 -- down to slot x: what came next is left aside only where x has a neighbour to come next
 unfoldable pub down : List ℕ → Place → ℕ → Place
 down L w x =
-    elim (slot_of (nextSub L x)) [
-      | At y ↦ place x (nextSub L x) (pushed w.stack w.len w.next) (pushedLen w.stack w.len)
+    elim (slot_of (next_sub_of L x)) [
+      | At y ↦ place x (next_sub_of L x) (pushed w.stack w.len w.next) (pushed_len w.stack w.len)
       | Nothing ↦ place x w.next w.stack w.len
     ]
 
 -- back: the words left aside, the last first, until one is a slot
 unfoldable pub back : Rest → List ℕ → List ℕ → List ℕ → ℕ → List ℕ
 back p L N A zero = N
-back p L N A (suc n) = elim (slot_of (get_or A n 0)) [ At x ↦ p N (place x (nextSub L x) A n) | Nothing ↦ back p L N A n ]
+back p L N A (suc n) = elim (slot_of (get_or A n 0)) [ At x ↦ p N (place x (next_sub_of L x) A n) | Nothing ↦ back p L N A n ]
 
 -- along to what comes next, or back
 unfoldable pub along : Rest → List ℕ → List ℕ → Place → Slot → List ℕ
-along p L N w (At x) = p N (place x (nextSub L x) w.stack w.len)
+along p L N w (At x) = p N (place x (next_sub_of L x) w.stack w.len)
 along p L N w Nothing = back p L N w.stack w.len
 
 -- down where there is a way, else along
@@ -65,4 +65,4 @@ abbrev pub blank : List ℕ
 blank = replicate 1024 0
 
 unfoldable pub propagated : List ℕ → List ℕ → ℕ → List ℕ
-propagated L N s = walked L (linkRows L) N (place s (nextSub L s) blank 0)
+propagated L N s = walked L (link_rows L) N (place s (next_sub_of L s) blank 0)

@@ -1,7 +1,7 @@
 // notify: an effect and the watching effects that own it go into the queue, owners first.
 // The climb to them has a budget of a turn for each row. Each turn clears a WATCHING bit that the turn before saw, so the budget is never what ends it.
 ghost use Rattle.std.specs.Prelude.{◌≡◌};
-ghost use Rattle.primitive.specs.Words.{nodeRows};
+ghost use Rattle.primitive.specs.Words.{node_rows};
 ghost use Rattle.marking.specs.Notify.{queued, climbed, notified};
 
 use crate::nodes::{flags, set_flags};
@@ -20,7 +20,7 @@ fn enqueue(nodes: &mut [u64], e: u64)
 
 // From e up through its watching owners, each queued as it is met.
 fn climb(nodes: &mut [u64], links: &[u64], e: u64)
-    ensures { nodes.new ≡ climbed links.now (nodeRows nodes.old) nodes.old e }
+    ensures { nodes.new ≡ climbed links.now (node_rows nodes.old) nodes.old e }
 {
     let mut effect = e;
     let mut left = nodes.len() / 16;

@@ -1,8 +1,8 @@
 // The walks over subscriber links that mark nodes. Each live link is met at most once on well-formed tables, so the budget is the rows of links.
 ghost use Rattle.std.specs.Prelude.{◌≡◌};
-ghost use Rattle.marking.specs.Valid.{validLink};
+ghost use Rattle.marking.specs.Valid.{valid_link};
 ghost use Rattle.marking.specs.Visits.{visit, after, stored, reached};
-ghost use Rattle.stack.specs.Stack.{pushed, pushedLen};
+ghost use Rattle.stack.specs.Stack.{pushed, pushed_len};
 ghost use Rattle.marking.specs.Walks.{place, below, walked, blank, propagated};
 ghost use Rattle.marking.specs.Shallow.{dirtied, shallow};
 
@@ -29,7 +29,7 @@ const MARKED: Flags = Flags {
 
 // Whether slot s is among the dependency links of sub, from its tail back.
 pub fn is_valid_link(nodes: &[u64], links: &[u64], s: u64, sub: u64) -> bool
-    ensures { result ≡ validLink links.now nodes.now s sub }
+    ensures { result ≡ valid_link links.now nodes.now s sub }
 {
     let mut link = words::get(nodes, NODE, sub, DEPS_TAIL);
     let mut left = links.len() / 8;
@@ -110,7 +110,7 @@ fn propagate_on(
     deep: u64,
     turns: usize,
 )
-    ensures { nodes.new ≡ walked links.now turns nodes.old (place s over (pushed blank deep aside) (pushedLen blank deep)) }
+    ensures { nodes.new ≡ walked links.now turns nodes.old (place s over (pushed blank deep aside) (pushed_len blank deep)) }
 {
     let mut link = s;
     let mut next = over;
@@ -150,7 +150,7 @@ fn propagate_on(
 
 // How high a stack of nothing is with one more on it.
 fn one_higher(len: u64) -> u64
-    ensures { result ≡ pushedLen blank len }
+    ensures { result ≡ pushed_len blank len }
 {
     if len < 1024 { len + 1 } else { len }
 }

@@ -6,17 +6,17 @@ use Prim.Native.Nat.{ℕ, zero, suc, ◌+◌, ◌≤◌}
 use native.Mathlib.Omega.{arith}
 use Rattle.values.specs.Values.{same, is_zero}
 use Rattle.trees.specs.Trees.{Tree, constant, read, two, choose, apply}
-use Rattle.meaning.specs.State.{St, Kind, signal, computed, effect, scope, deps, bare, has_value, f1, f5, withPending, raised}
-use Rattle.meaning.specs.Setters.{setFl, setSto, withCycle}
-use Rattle.meaning.specs.Links.{provided, isNil, link, purge, rewind}
-use Rattle.meaning.specs.Reads.{Ans, ans, Out, out, evalBy, spread, settleW, readW, firstW, updComputed, updW, sameSlots, steady, checkOn, checkW, pendingW, freshW, fresh}
+use Rattle.meaning.specs.State.{St, Kind, signal, computed, effect, scope, deps, bare, has_value, f1, f5, with_pending, raised}
+use Rattle.meaning.specs.Setters.{set_fl, set_sto, with_cycle}
+use Rattle.meaning.specs.Links.{provided, is_nil, link, purge, rewind}
+use Rattle.meaning.specs.Reads.{Ans, ans, Out, out, eval_by, spread, settle_w, read_w, first_w, upd_computed, upd_w, same_slots, steady, check_on, check_w, pending_w, fresh_w, fresh}
 use Rattle.meaning.specs.Moments.{Steps, here}
 use Rattle.meaning.specs.Checks.{tells, Updated, Checks}
-use Rattle.meaning.proofs.Laws.{clash, branch, branches, provided-by, or_left}
-use Rattle.meaning.proofs.Rings.{purge-ring, eval-ring, upd-ring, checkOn-ring}
+use Rattle.meaning.proofs.Laws.{clash, branch, branches, provided_by, or_left}
+use Rattle.meaning.proofs.Rings.{purge_ring, eval_ring, upd_ring, check_on-ring}
 use Rattle.meaning.proofs.Throughout.{unstuck}
 use Rattle.meaning.proofs.Stepped.{drops, runs}
-use Rattle.meaning.proofs.Checking.{tells-free, OneEnd, looked-one}
+use Rattle.meaning.proofs.Checking.{tells_free, OneEnd, looked_one}
 
 -- b is a, unless a is stuck
 record Agrees {A : Type 0} (state : A → St) (a b : A) : Type 0 where
@@ -35,113 +35,113 @@ AgreeO = Agrees (λ (o : Out). o.st)
 abbrev asks : ℕ → List ℕ → (St → Ans) → Ans → Ans
 asks d was more r = let t = steady was r.st d in elim r.yes [ true ↦ ans (tells t d) true | false ↦ more t ]
 
-steady-steps : (was : List ℕ) (t : St) (d : ℕ) → Steps t (steady was t d)
+steady_steps : (was : List ℕ) (t : St) (d : ℕ) → Steps t (steady was t d)
 unfolding steady
-steady-steps was t d = provided-by (Steps t) (sameSlots was (t.subs d) && not (isNil was)) here (drops.stops t)
+steady_steps was t d = provided_by (Steps t) (same_slots was (t.subs d) && not (is_nil was)) here (drops.stops t)
 
-asked-agrees : (d : ℕ) (was : List ℕ) (r q : Ans) (more other : St → Ans) → AgreeA r q → ((t : St) → Steps t (more t).st) → ((t : St) → AgreeA (more t) (other t)) → AgreeA (asks d was more r) (asks d was other q)
-asked-agrees d was r q more other ag steps ags =
+asked_agrees : (d : ℕ) (was : List ℕ) (r q : Ans) (more other : St → Ans) → AgreeA r q → ((t : St) → Steps t (more t).st) → ((t : St) → AgreeA (more t) (other t)) → AgreeA (asks d was more r) (asks d was other q)
+asked_agrees d was r q more other ag steps ags =
     let t = steady was r.st d in
-    let free : (asks d was more r).st.stuck ≡ false → t.stuck ≡ false = branch (λ (a : Ans). a.st.stuck ≡ false → t.stuck ≡ false) r.yes (λ y z. tells-free t d z) (λ y z. unstuck t (more t).st (steps t) z) in
+    let free : (asks d was more r).st.stuck ≡ false → t.stuck ≡ false = branch (λ (a : Ans). a.st.stuck ≡ false → t.stuck ≡ false) r.yes (λ y z. tells_free t d z) (λ y z. unstuck t (more t).st (steps t) z) in
     let same_way : AgreeA (asks d was more r) (asks d was other r) = branches AgreeA r.yes (λ y. record { same = λ z. refl }) (λ y. ags t) in
-    record { same = λ z. ap (asks d was other) (ag.same (unstuck r.st t (steady-steps was r.st d) (free z))) ∙ same_way.same z }
+    record { same = λ z. ap (asks d was other) (ag.same (unstuck r.st t (steady_steps was r.st d) (free z))) ∙ same_way.same z }
 
 -- n is read, and r is what it comes to
 abbrev settled : Ans → ℕ → St
 settled r n = let t = spread r n in provided (has_value (t.kind n) (t.fl n)) t
 
-pub settled-free : (r : Ans) (n : ℕ) → (settled r n).stuck ≡ false → r.st.stuck ≡ false
-settled-free r n =
+pub settled_free : (r : Ans) (n : ℕ) → (settled r n).stuck ≡ false → r.st.stuck ≡ false
+settled_free r n =
     let t = spread r n in
-    provided-by (λ (x : St). x.stuck ≡ false → r.st.stuck ≡ false) (has_value (t.kind n) (t.fl n))
+    provided_by (λ (x : St). x.stuck ≡ false → r.st.stuck ≡ false) (has_value (t.kind n) (t.fl n))
     (branch (λ (x : St). x.stuck ≡ false → r.st.stuck ≡ false) r.yes (λ y z. or_left r.st.stuck _ z) (λ y z. z)) (λ z. clash refl z)
 
 -- ---- two budgets that agree below
 module _ (k j : ℕ) (agree : (s : St) (n : ℕ) → AgreeA (fresh k s n) (fresh j s n)) where
-  settles : (s : St) (n : ℕ) → AgreeS (settleW (fresh k) s n) (settleW (fresh j) s n)
-  unfolding settleW
-  settles s n = record { same = λ z. ap (λ (r : Ans). settled r n) ((agree s n).same (settled-free (fresh k s n) n z)) }
+  settles : (s : St) (n : ℕ) → AgreeS (settle_w (fresh k) s n) (settle_w (fresh j) s n)
+  unfolding settle_w
+  settles s n = record { same = λ z. ap (λ (r : Ans). settled r n) ((agree s n).same (settled_free (fresh k s n) n z)) }
 
-  reads : (u : ℕ) (s : St) (m : ℕ) → AgreeS (readW (fresh k) u s m) (readW (fresh j) u s m)
+  reads : (u : ℕ) (s : St) (m : ℕ) → AgreeS (read_w (fresh k) u s m) (read_w (fresh j) u s m)
   reads u s m =
-      let t = settleW (fresh k) s m in
+      let t = settle_w (fresh k) s m in
       record { same = λ z. ap (λ (x : St). link x m u x.cycle) ((settles s m).same (unstuck t (link t m u t.cycle) (runs.renews.links t m u t.cycle) z)) }
 
-  evals : (u : ℕ) (f : Tree) (s : St) → AgreeO (evalBy (readW (fresh k) u) f s) (evalBy (readW (fresh j) u) f s)
-  unfolding evalBy
+  evals : (u : ℕ) (f : Tree) (s : St) → AgreeO (eval_by (read_w (fresh k) u) f s) (eval_by (read_w (fresh j) u) f s)
+  unfolding eval_by
   evals u (constant c) s = record { same = λ z. refl }
   evals u (read n) s = record { same = λ z. ap (λ (t : St). out t (t.sto n) ((n, t.sto n) ∷ [])) ((reads u s n).same z) }
   evals u (two o a b) s =
-      let rd = readW (fresh k) u in
-      let x = evalBy rd a s in
-      let y = evalBy rd b x.st in
+      let rd = read_w (fresh k) u in
+      let x = eval_by rd a s in
+      let y = eval_by rd b x.st in
       record {
         same = λ z.
-            ap (λ (v : Out). let w = evalBy (readW (fresh j) u) b v.st in out w.st (apply o v.val w.val) (v.reads ++ w.reads))
-            ((evals u a s).same (unstuck x.st y.st (eval-ring Steps runs.renews k u b x.st) z))
+            ap (λ (v : Out). let w = eval_by (read_w (fresh j) u) b v.st in out w.st (apply o v.val w.val) (v.reads ++ w.reads))
+            ((evals u a s).same (unstuck x.st y.st (eval_ring Steps runs.renews k u b x.st) z))
             ∙ ap (λ (w : Out). out w.st (apply o x.val w.val) (x.reads ++ w.reads)) ((evals u b x.st).same z);
       }
   evals u (choose c a b) s =
-      let rd = readW (fresh k) u in
-      let rj = readW (fresh j) u in
-      let x = evalBy rd c s in
-      let taken : (St → ℕ → St) → Out → Out = λ r v. elim (is_zero v.val) as (λ (i : Bool). Out) [ true ↦ evalBy r b v.st | false ↦ evalBy r a v.st ] in
+      let rd = read_w (fresh k) u in
+      let rj = read_w (fresh j) u in
+      let x = eval_by rd c s in
+      let taken : (St → ℕ → St) → Out → Out = λ r v. elim (is_zero v.val) as (λ (i : Bool). Out) [ true ↦ eval_by r b v.st | false ↦ eval_by r a v.st ] in
       let one_way : AgreeO (taken rd x) (taken rj x) = branches AgreeO (is_zero x.val) (λ e. evals u b x.st) (λ e. evals u a x.st) in
-      let steps : Steps x.st (taken rd x).st = branch (λ (y : Out). Steps x.st y.st) (is_zero x.val) (λ e. eval-ring Steps runs.renews k u b x.st) (λ e. eval-ring Steps runs.renews k u a x.st) in
+      let steps : Steps x.st (taken rd x).st = branch (λ (y : Out). Steps x.st y.st) (is_zero x.val) (λ e. eval_ring Steps runs.renews k u b x.st) (λ e. eval_ring Steps runs.renews k u a x.st) in
       record {
         same = λ z.
             ap (λ (v : Out). let w = taken rj v in out w.st w.val (v.reads ++ w.reads)) ((evals u c s).same (unstuck x.st (taken rd x).st steps z))
             ∙ ap (λ (w : Out). out w.st w.val (x.reads ++ w.reads)) (one_way.same z);
       }
 
-  firsts : (s : St) (n : ℕ) → AgreeS (firstW (fresh k) s n) (firstW (fresh j) s n)
-  unfolding firstW
-  firsts s n = record { same = λ z. ap (λ (o : Out). setFl (setSto o.st n o.val) n f1) ((evals n (s.form n) (setFl s n f5)).same z) }
+  firsts : (s : St) (n : ℕ) → AgreeS (first_w (fresh k) s n) (first_w (fresh j) s n)
+  unfolding first_w
+  firsts s n = record { same = λ z. ap (λ (o : Out). set_fl (set_sto o.st n o.val) n f1) ((evals n (s.form n) (set_fl s n f5)).same z) }
 
-  computeds : (s : St) (n : ℕ) → AgreeA (updComputed (fresh k) s n) (updComputed (fresh j) s n)
-  unfolding updComputed
+  computeds : (s : St) (n : ℕ) → AgreeA (upd_computed (fresh k) s n) (upd_computed (fresh j) s n)
+  unfolding upd_computed
   computeds s n =
-      let t = setFl (rewind (withCycle s (raised s.cycle)) n) n f5 in
-      let o = evalBy (readW (fresh k) n) (s.form n) t in
-      let y = setFl (setSto o.st n o.val) n f1 in
-      record { same = λ z. ap (λ (o : Out). ans (purge (setFl (setSto o.st n o.val) n f1) n) (not (same (s.sto n) o.val))) ((evals n (s.form n) t).same (unstuck y (purge y n) (purge-ring Steps drops y n) z)) }
+      let t = set_fl (rewind (with_cycle s (raised s.cycle)) n) n f5 in
+      let o = eval_by (read_w (fresh k) n) (s.form n) t in
+      let y = set_fl (set_sto o.st n o.val) n f1 in
+      record { same = λ z. ap (λ (o : Out). ans (purge (set_fl (set_sto o.st n o.val) n f1) n) (not (same (s.sto n) o.val))) ((evals n (s.form n) t).same (unstuck y (purge y n) (purge_ring Steps drops y n) z)) }
 
-  upds : (c : Kind) (s : St) (n : ℕ) → AgreeA (updW (fresh k) c s n) (updW (fresh j) c s n)
-  unfolding updW
+  upds : (c : Kind) (s : St) (n : ℕ) → AgreeA (upd_w (fresh k) c s n) (upd_w (fresh j) c s n)
+  unfolding upd_w
   upds signal s n = record { same = λ z. refl }
   upds computed s n = computeds s n
   upds effect s n = record { same = λ z. refl }
   upds scope s n = record { same = λ z. refl }
 
-  checks : (u : ℕ) (ls : List ℕ) (s : St) → AgreeA (checkOn (fresh k) u s ls) (checkOn (fresh j) u s ls)
-  unfolding checkOn
+  checks : (u : ℕ) (ls : List ℕ) (s : St) → AgreeA (check_on (fresh k) u s ls) (check_on (fresh j) u s ls)
+  unfolding check_on
   checks u [] s = record { same = λ z. refl }
   checks u (l ∷ ls) s =
       let d = s.dep l in
       branches AgreeA (s.fl u).dirty (λ e. record { same = λ z. refl })
       (λ e. branches AgreeA (s.fl d).mutable
-      (λ m. asked-agrees d (s.subs d) (fresh k s d) (fresh j s d) (λ t. checkOn (fresh k) u t ls) (λ t. checkOn (fresh j) u t ls) (agree s d) (checkOn-ring Steps runs.renews k u ls) (checks u ls))
+      (λ m. asked_agrees d (s.subs d) (fresh k s d) (fresh j s d) (λ t. check_on (fresh k) u t ls) (λ t. check_on (fresh j) u t ls) (agree s d) (check_on-ring Steps runs.renews k u ls) (checks u ls))
       (λ m. checks u ls s))
 
-  wholly : (s : St) (u : ℕ) → AgreeA (checkW (fresh k) s u) (checkW (fresh j) s u)
-  unfolding checkW
-  wholly s u = branches AgreeA (isNil (deps s u)) (λ e. record { same = λ z. refl }) (λ e. checks u (deps s u) s)
+  wholly : (s : St) (u : ℕ) → AgreeA (check_w (fresh k) s u) (check_w (fresh j) s u)
+  unfolding check_w
+  wholly s u = branches AgreeA (is_nil (deps s u)) (λ e. record { same = λ z. refl }) (λ e. checks u (deps s u) s)
 
   -- after the check c
   abbrev then : ℕ → St → ℕ → Ans → Ans
-  then b s n c = elim c.yes [ true ↦ updW (fresh b) (s.kind n) c.st n | false ↦ ans (setFl c.st n (withPending (c.st.fl n) false)) false ]
+  then b s n c = elim c.yes [ true ↦ upd_w (fresh b) (s.kind n) c.st n | false ↦ ans (set_fl c.st n (with_pending (c.st.fl n) false)) false ]
 
-  pendings : (s : St) (n : ℕ) → AgreeA (pendingW (fresh k) s n) (pendingW (fresh j) s n)
-  unfolding pendingW
+  pendings : (s : St) (n : ℕ) → AgreeA (pending_w (fresh k) s n) (pending_w (fresh j) s n)
+  unfolding pending_w
   pendings s n =
-      let c = checkW (fresh k) s n in
-      let free : (then k s n c).st.stuck ≡ false → c.st.stuck ≡ false = branch (λ (a : Ans). a.st.stuck ≡ false → c.st.stuck ≡ false) c.yes (λ y z. unstuck c.st (updW (fresh k) (s.kind n) c.st n).st (upd-ring Steps runs.renews k (s.kind n) c.st n) z) (λ y z. z) in
+      let c = check_w (fresh k) s n in
+      let free : (then k s n c).st.stuck ≡ false → c.st.stuck ≡ false = branch (λ (a : Ans). a.st.stuck ≡ false → c.st.stuck ≡ false) c.yes (λ y z. unstuck c.st (upd_w (fresh k) (s.kind n) c.st n).st (upd_ring Steps runs.renews k (s.kind n) c.st n) z) (λ y z. z) in
       let one_way : AgreeA (then k s n c) (then j s n c) = branches AgreeA c.yes (λ y. upds (s.kind n) c.st n) (λ y. record { same = λ z. refl }) in
       record { same = λ z. ap (then j s n) ((wholly s n).same (free z)) ∙ one_way.same z }
 
-  all-agree : (s : St) (n : ℕ) → AgreeA (freshW (fresh k) s n) (freshW (fresh j) s n)
-  unfolding freshW
-  all-agree s n =
+  all_agree : (s : St) (n : ℕ) → AgreeA (fresh_w (fresh k) s n) (fresh_w (fresh j) s n)
+  unfolding fresh_w
+  all_agree s n =
       branches AgreeA (bare (s.fl n)) (λ e. record { same = λ z. ap (λ (x : St). ans x false) ((firsts s n).same z) })
       (λ e. branches AgreeA (s.fl n).dirty (λ f. upds (s.kind n) s n)
       (λ f. branches AgreeA (s.fl n).pending (λ p. pendings s n) (λ p. record { same = λ z. refl })))
@@ -150,20 +150,20 @@ enough : (k j : ℕ) → k ≤ j → (s : St) (n : ℕ) → AgreeA (fresh k s n)
 unfolding fresh
 enough zero j h s n = record { same = λ z. clash refl z }
 enough (suc k) zero h s n = absurd (omega arith)
-enough (suc k) (suc j) h s n = all-agree k j (enough k j (omega arith)) s n
+enough (suc k) (suc j) h s n = all_agree k j (enough k j (omega arith)) s n
 
 -- a budget with which a node is brought up to date is enough
-pub budget-enough : (k j : ℕ) → k ≤ j → (s : St) (n : ℕ) → (fresh k s n).st.stuck ≡ false → fresh j s n ≡ fresh k s n
-budget-enough k j h s n = (enough k j h s n).same
+pub budget_enough : (k j : ℕ) → k ≤ j → (s : St) (n : ℕ) → (fresh k s n).st.stuck ≡ false → fresh j s n ≡ fresh k s n
+budget_enough k j h s n = (enough k j h s n).same
 
 -- ---- so an update comes to one end, and there is one check
-pub updated-one : OneEnd Updated
-updated-one s d t x b c u v =
+pub updated_one : OneEnd Updated
+updated_one s d t x b c u v =
     let m = u.0 + v.0 in
     let p = (upds u.0 m (enough u.0 m (omega arith)) (s.kind d) s d).same (ap (λ (a : Ans). a.st.stuck) u.1 ∙ u.2) in
     let q = (upds v.0 m (enough v.0 m (omega arith)) (s.kind d) s d).same (ap (λ (a : Ans). a.st.stuck) v.1 ∙ v.2) in
     let e : ans t b ≡ ans x c = sym u.1 ∙ sym p ∙ q ∙ v.1 in
     (ap (λ (a : Ans). a.st) e, ap (λ (a : Ans). a.yes) e)
 
-pub checks-one : (s : St) (u : ℕ) (t x : St) (b c : Bool) → Checks s u t b → Checks s u x c → (t ≡ x) × (b ≡ c)
-checks-one s u t x b c = looked-one updated-one
+pub checks_one : (s : St) (u : ℕ) (t x : St) (b c : Bool) → Checks s u t b → Checks s u x c → (t ≡ x) × (b ≡ c)
+checks_one s u t x b c = looked_one updated_one

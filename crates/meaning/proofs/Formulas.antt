@@ -14,65 +14,65 @@ use Rattle.trees.specs.declared.cells.Op.{Op}
 use Rattle.trees.specs.declared.cells.Op.TheVariants.{Sum, Difference, Minimum, Maximum, Less}
 use Rattle.trees.specs.declared.cells.Cell.{Cell}
 use Rattle.trees.specs.declared.cells.Cell.TheVariants.{Constant, Read, Two, Choose, Bad}
-use Rattle.trees.specs.Cells.{cell_of, codes, read_of, bareOf}
+use Rattle.trees.specs.Cells.{cell_of, codes, read_of, bare_of}
 use Rattle.trees.specs.Trees.{Tree, constant, read, two, choose, code_of, written, size, nesting}
-use Rattle.trees.specs.Legal.{mostCells, mostNesting}
-use Rattle.trees.proofs.Written.{WrittenAs, cell-written, length-written, regroup}
+use Rattle.trees.specs.Legal.{most_cells, most_nesting}
+use Rattle.trees.proofs.Written.{WrittenAs, cell_written, length_written, regroup}
 use Rattle.meaning.specs.Words.{word, no_word, Part, after, grown, parse, tree_of}
-use Rattle.meaning.proofs.Laws.{none-some, same_some}
+use Rattle.meaning.proofs.Laws.{none_some, same_some}
 
 -- ---- what is written is found
-cell-two : (o : Op) → cell_of (pos (code_of o)) (pos 0) ≡ Two o
-unfolding cell_of codes bareOf
-cell-two Sum = refl
-cell-two Difference = refl
-cell-two Minimum = refl
-cell-two Maximum = refl
-cell-two Less = refl
+cell_two : (o : Op) → cell_of (pos (code_of o)) (pos 0) ≡ Two o
+unfolding cell_of codes bare_of
+cell_two Sum = refl
+cell_two Difference = refl
+cell_two Minimum = refl
+cell_two Maximum = refl
+cell_two Less = refl
 
-pub parse-written : (t : Tree) (k : ℕ) (rest : List ℤ) → nesting t ≤ k → parse k (written t ++ rest) ≡ some (t, rest)
-unfolding parse word grown after cell_of codes read_of bareOf written nesting
-parse-written (constant c) zero rest h = absurd (omega arith)
-parse-written (constant c) (suc k) rest h = refl
-parse-written (read n) zero rest h = absurd (omega arith)
-parse-written (read n) (suc k) rest h = refl
-parse-written (two o a b) zero rest h = absurd (omega arith)
-parse-written (two o a b) (suc k) rest h =
-    let p = parse-written a k (written b ++ rest) (omega arith) in
-    let q = parse-written b k rest (omega arith) in
-    ap (λ (c : Cell). grown (parse k) c ((written a ++ written b) ++ rest)) (cell-two o)
+pub parse_written : (t : Tree) (k : ℕ) (rest : List ℤ) → nesting t ≤ k → parse k (written t ++ rest) ≡ some (t, rest)
+unfolding parse word grown after cell_of codes read_of bare_of written nesting
+parse_written (constant c) zero rest h = absurd (omega arith)
+parse_written (constant c) (suc k) rest h = refl
+parse_written (read n) zero rest h = absurd (omega arith)
+parse_written (read n) (suc k) rest h = refl
+parse_written (two o a b) zero rest h = absurd (omega arith)
+parse_written (two o a b) (suc k) rest h =
+    let p = parse_written a k (written b ++ rest) (omega arith) in
+    let q = parse_written b k rest (omega arith) in
+    ap (λ (c : Cell). grown (parse k) c ((written a ++ written b) ++ rest)) (cell_two o)
     ∙ ap (λ (r : Part). after r (λ x y. after (parse k y) (λ z w. some (two o x z, w)))) (ap (parse k) (append_assoc (written a) (written b) rest) ∙ p)
     ∙ ap (λ (r : Part). after r (λ z w. some (two o a z, w))) q
-parse-written (choose c a b) zero rest h = absurd (omega arith)
-parse-written (choose c a b) (suc k) rest h =
-    let o = parse-written c k (written a ++ (written b ++ rest)) (omega arith) in
-    let p = parse-written a k (written b ++ rest) (omega arith) in
-    let q = parse-written b k rest (omega arith) in
+parse_written (choose c a b) zero rest h = absurd (omega arith)
+parse_written (choose c a b) (suc k) rest h =
+    let o = parse_written c k (written a ++ (written b ++ rest)) (omega arith) in
+    let p = parse_written a k (written b ++ rest) (omega arith) in
+    let q = parse_written b k rest (omega arith) in
     ap (λ (r : Part). after r (λ x y. after (parse k y) (λ z w. after (parse k w) (λ v u. some (choose x z v, u))))) (ap (parse k) (regroup c a b rest) ∙ o)
     ∙ ap (λ (r : Part). after r (λ z w. after (parse k w) (λ v u. some (choose c z v, u)))) p
     ∙ ap (λ (r : Part). after r (λ v u. some (choose c a v, u))) q
 
 -- ---- what is found is written
-after-some : (r : Part) (f : Tree → List ℤ → Part) (p : Tree × List ℤ) → after r f ≡ some p → (x : Tree × List ℤ) × (r ≡ some x) × (f x.0 x.1 ≡ some p)
+after_some : (r : Part) (f : Tree → List ℤ → Part) (p : Tree × List ℤ) → after r f ≡ some p → (x : Tree × List ℤ) × (r ≡ some x) × (f x.0 x.1 ≡ some p)
 unfolding after
-after-some none f p e = none-some e
-after-some (some x) f p e = (x, refl, e)
+after_some none f p e = none_some e
+after_some (some x) f p e = (x, refl, e)
 
 abbrev Spells : ℕ → List ℤ → Tree × List ℤ → Type 0
 Spells k ws p = (ws ≡ written p.0 ++ p.1) × (nesting p.0 ≤ k)
 
-grown-spells : (k : ℕ) → ((ws : List ℤ) (p : Tree × List ℤ) → parse k ws ≡ some p → Spells k ws p)
+grown_spells : (k : ℕ) → ((ws : List ℤ) (p : Tree × List ℤ) → parse k ws ≡ some p → Spells k ws p)
     → (c o : ℤ) (x : Cell) → WrittenAs c o x → (ws : List ℤ) (p : Tree × List ℤ) → grown (parse k) x ws ≡ some p → Spells (suc k) (c ∷ o ∷ ws) p
 unfolding grown written nesting
-grown-spells k ih c o (Constant v) w ws p e =
+grown_spells k ih c o (Constant v) w ws p e =
     let z : suc zero ≤ suc k = omega arith in
     subst (Spells (suc k) (c ∷ o ∷ ws)) (same_some e) (ap₂ (λ (x y : ℤ). x ∷ y ∷ ws) w.0 w.1, z)
-grown-spells k ih c o (Read n) w ws p e =
+grown_spells k ih c o (Read n) w ws p e =
     let z : suc zero ≤ suc k = omega arith in
     subst (Spells (suc k) (c ∷ o ∷ ws)) (same_some e) (ap₂ (λ (x y : ℤ). x ∷ y ∷ ws) w.0 w.1, z)
-grown-spells k ih c o (Two op) w ws p e =
-    let x = after-some (parse k ws) (λ a r. after (parse k r) (λ b q. some (two op a b, q))) p e in
-    let y = after-some (parse k x.0.1) (λ b q. some (two op x.0.0 b, q)) p x.2 in
+grown_spells k ih c o (Two op) w ws p e =
+    let x = after_some (parse k ws) (λ a r. after (parse k r) (λ b q. some (two op a b, q))) p e in
+    let y = after_some (parse k x.0.1) (λ b q. some (two op x.0.0 b, q)) p x.2 in
     let a = ih ws x.0 x.1 in
     let b = ih x.0.1 y.0 y.1 in
     let la = a.1 in
@@ -84,10 +84,10 @@ grown-spells k ih c o (Two op) w ws p e =
           (a.0 ∙ ap (λ (r : List ℤ). written x.0.0 ++ r) b.0 ∙ sym (append_assoc (written x.0.0) (written y.0.0) y.0.1)),
       low,
     )
-grown-spells k ih c o Choose w ws p e =
-    let x = after-some (parse k ws) (λ c r. after (parse k r) (λ a q. after (parse k q) (λ b z. some (choose c a b, z)))) p e in
-    let y = after-some (parse k x.0.1) (λ a q. after (parse k q) (λ b z. some (choose x.0.0 a b, z))) p x.2 in
-    let v = after-some (parse k y.0.1) (λ b z. some (choose x.0.0 y.0.0 b, z)) p y.2 in
+grown_spells k ih c o Choose w ws p e =
+    let x = after_some (parse k ws) (λ c r. after (parse k r) (λ a q. after (parse k q) (λ b z. some (choose c a b, z)))) p e in
+    let y = after_some (parse k x.0.1) (λ a q. after (parse k q) (λ b z. some (choose x.0.0 a b, z))) p x.2 in
+    let v = after_some (parse k y.0.1) (λ b z. some (choose x.0.0 y.0.0 b, z)) p y.2 in
     let f = ih ws x.0 x.1 in
     let a = ih x.0.1 y.0 y.1 in
     let b = ih y.0.1 v.0 v.1 in
@@ -102,45 +102,45 @@ grown-spells k ih c o Choose w ws p e =
           ∙ sym (regroup x.0.0 y.0.0 v.0.0 v.0.1)),
       low,
     )
-grown-spells k ih c o Bad w ws p e = none-some e
+grown_spells k ih c o Bad w ws p e = none_some e
 
-pub parse-spells : (k : ℕ) (ws : List ℤ) (p : Tree × List ℤ) → parse k ws ≡ some p → Spells k ws p
+pub parse_spells : (k : ℕ) (ws : List ℤ) (p : Tree × List ℤ) → parse k ws ≡ some p → Spells k ws p
 unfolding parse word
-parse-spells zero ws p e = none-some e
-parse-spells (suc k) [] p e = none-some e
-parse-spells (suc k) (c ∷ []) p e = none-some e
-parse-spells (suc k) (c ∷ o ∷ ws) p e = grown-spells k (parse-spells k) c o (cell_of c o) (cell-written c o) ws p e
+parse_spells zero ws p e = none_some e
+parse_spells (suc k) [] p e = none_some e
+parse_spells (suc k) (c ∷ []) p e = none_some e
+parse_spells (suc k) (c ∷ o ∷ ws) p e = grown_spells k (parse_spells k) c o (cell_of c o) (cell_written c o) ws p e
 
 -- ---- both
 -- the words are the tree t written out, within the limits
 pub record WrittenOut (ws : List ℤ) (t : Tree) : Type 0 where
   pub spelt : ws ≡ written t
-  pub few : size t ≤ mostCells
-  pub shallow : nesting t ≤ mostNesting
+  pub few : size t ≤ most_cells
+  pub shallow : nesting t ≤ most_nesting
 
-alone-some : (r : Part) (t : Tree) → after r no_word ≡ some t → r ≡ some (t, [])
+alone_some : (r : Part) (t : Tree) → after r no_word ≡ some t → r ≡ some (t, [])
 unfolding after no_word
-alone-some none t e = none-some e
-alone-some (some (u, [])) t e = ap (λ (x : Tree). some (x, [])) (same_some e)
-alone-some (some (u, w ∷ ws)) t e = none-some e
+alone_some none t e = none_some e
+alone_some (some (u, [])) t e = ap (λ (x : Tree). some (x, [])) (same_some e)
+alone_some (some (u, w ∷ ws)) t e = none_some e
 
-pub tree-exact : (ws : List ℤ) (t : Tree) → (tree_of ws ≡ some t) ↔ WrittenOut ws t
+pub tree_exact : (ws : List ℤ) (t : Tree) → (tree_of ws ≡ some t) ↔ WrittenOut ws t
 unfolding tree_of after no_word
-tree-exact ws t = (go (leb (length ws / 2) mostCells) refl, back)
+tree_exact ws t = (go (leb (length ws / 2) most_cells) refl, back)
   where
-    go : (b : Bool) → leb (length ws / 2) mostCells ≡ b → elim b [ true ↦ after (parse mostNesting ws) no_word | false ↦ none ] ≡ some t → WrittenOut ws t
+    go : (b : Bool) → leb (length ws / 2) most_cells ≡ b → elim b [ true ↦ after (parse most_nesting ws) no_word | false ↦ none ] ≡ some t → WrittenOut ws t
     go true l e =
-        let p = parse-spells mostNesting ws (t, []) (alone-some (parse mostNesting ws) t e) in
+        let p = parse_spells most_nesting ws (t, []) (alone_some (parse most_nesting ws) t e) in
         let q : ws ≡ written t = p.0 ∙ append-nil (written t) in
-        let n : length ws ≡ size t * 2 = ap length q ∙ length-written t in
-        let few : length ws / 2 ≤ mostCells = leb-true (length ws / 2) mostCells l in
+        let n : length ws ≡ size t * 2 = ap length q ∙ length_written t in
+        let few : length ws / 2 ≤ most_cells = leb-true (length ws / 2) most_cells l in
         record { spelt = q; few = omega arith; shallow = p.1 }
-    go false l e = none-some e
+    go false l e = none_some e
 
     back : WrittenOut ws t → tree_of ws ≡ some t
     back w =
-        let n : length ws ≡ size t * 2 = ap length w.spelt ∙ length-written t in
+        let n : length ws ≡ size t * 2 = ap length w.spelt ∙ length_written t in
         let few = w.few in
-        let p : parse mostNesting ws ≡ some (t, []) =
-        ap (parse mostNesting) (w.spelt ∙ sym (append-nil (written t))) ∙ parse-written t mostNesting [] w.shallow in
-        rw (le-leb (length ws / 2) mostCells (omega arith), tree_of, p)
+        let p : parse most_nesting ws ≡ some (t, []) =
+        ap (parse most_nesting) (w.spelt ∙ sym (append-nil (written t))) ∙ parse_written t most_nesting [] w.shallow in
+        rw (le-leb (length ws / 2) most_cells (omega arith), tree_of, p)

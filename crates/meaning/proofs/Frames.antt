@@ -10,28 +10,28 @@ use Rattle.flags.specs.declared.Named.{Named}
 use Rattle.values.specs.declared.Value.{Value}
 use Rattle.trees.specs.Trees.{names}
 use Rattle.meaning.specs.State.{St, Kind, signal, computed, effect, scope, Row, readable, rank, deps, f1}
-use Rattle.meaning.specs.Setters.{withCycle, withSto, withPend, withDepth, withLog, withStuck}
+use Rattle.meaning.specs.Setters.{with_cycle, with_sto, with_pend, with_depth, with_log, with_stuck}
 use Rattle.meaning.specs.Links.{cut, purge}
-use Rattle.meaning.specs.Reserve.{reserveOf}
-use Rattle.meaning.specs.WellFormed.{In, readLinks, clean}
-use Rattle.meaning.proofs.Laws.{clash, either, none-some}
-use Rattle.meaning.proofs.Members.{none-nil, nil-none, append-is-nil, reads-agree}
-use Rattle.meaning.proofs.Rings.{purge-ring}
+use Rattle.meaning.specs.Reserve.{reserve_of}
+use Rattle.meaning.specs.WellFormed.{In, read_links, clean}
+use Rattle.meaning.proofs.Laws.{clash, either, none_some}
+use Rattle.meaning.proofs.Members.{none_nil, nil_none, append_is_nil, reads_agree}
+use Rattle.meaning.proofs.Rings.{purge_ring}
 use Rattle.meaning.proofs.Still.{Given}
-use Rattle.meaning.proofs.Binding.{SameReads, reads-lists}
+use Rattle.meaning.proofs.Binding.{SameReads, reads_lists}
 use Rattle.meaning.proofs.Inside.{Set, Static, AtRest, Slots, Inside, Under}
-use Rattle.meaning.proofs.Dropping.{aComputed, Purged}
+use Rattle.meaning.proofs.Dropping.{a_computed, Purged}
 use Rattle.meaning.proofs.Room.{spends, Paid}
 
 -- ---- columns that well-formedness does not look at
-pub others : (g : Given) (X : Set) (s : St) → Inside g X s → (c : ℕ) (f p : ℕ → Value) (d : ℕ) (l : List Row) (b : Bool) → Inside g X (withStuck (withLog (withDepth (withPend (withSto (withCycle s c) f) p) d) l) b)
+pub others : (g : Given) (X : Set) (s : St) → Inside g X s → (c : ℕ) (f p : ℕ → Value) (d : ℕ) (l : List Row) (b : Bool) → Inside g X (with_stuck (with_log (with_depth (with_pend (with_sto (with_cycle s c) f) p) d) l) b)
 others g X s i c f p d l b = record {
   same = i.same;
   lists = i.lists;
   goes = i.goes;
-  gone-kind = i.gone-kind;
+  gone_kind = i.gone_kind;
   fits = i.fits;
-  no-wake = i.no-wake;
+  no_wake = i.no_wake;
   once = i.once;
   effects = i.effects;
   rests = i.rests;
@@ -41,9 +41,9 @@ others g X s i c f p d l b = record {
 abbrev Stores : St → St → Type 0
 Stores s t = t.sto ≡ s.sto
 
-pub purge-sto : (s : St) (u : ℕ) → (purge s u).sto ≡ s.sto
+pub purge_sto : (s : St) (u : ℕ) → (purge s u).sto ≡ s.sto
 unfolding cut
-purge-sto = purge-ring Stores (record { same = λ s. refl; then = λ s t x p q. q ∙ p; stops = λ s. refl; cuts = λ s l v. refl; bares = λ s x. refl; stales = λ s d. refl })
+purge_sto = purge_ring Stores (record { same = λ s. refl; then = λ s t x p q. q ∙ p; stops = λ s. refl; cuts = λ s l v. refl; bares = λ s x. refl; stales = λ s d. refl })
 
 -- ---- computeds of a rank below b
 abbrev pub Low : Given → ℕ → Set
@@ -73,10 +73,10 @@ pub record Frame (g : Given) (N : Set) (c : ℕ) (s t : St) : Type 0 where
 
 module _ (g : Given) (N : Set) (c : ℕ) where
   -- a step that moves no link
-  pub frame-flags : (s t : St) → t.subs ≡ s.subs → t.gone ≡ s.gone → t.live ≡ s.live → t.dep ≡ s.dep → t.sub ≡ s.sub → t.stuck ≡ s.stuck
+  pub frame_flags : (s t : St) → t.subs ≡ s.subs → t.gone ≡ s.gone → t.live ≡ s.live → t.dep ≡ s.dep → t.sub ≡ s.sub → t.stuck ≡ s.stuck
       → ((l : ℕ) → s.live l ≡ true → (N (s.sub l) → ⊥) → t.ver l ≡ s.ver l) → ((m : ℕ) → (N m → ⊥) → (t.done m ≡ s.done m) × (t.rest m ≡ s.rest m)) → ((m : ℕ) → (N m → ⊥) → (g.kind m ≡ signal → ⊥) → t.fl m ≡ s.fl m)
       → ((m : ℕ) → s.fl m ≡ f1 → t.fl m ≡ f1) → ((m : ℕ) → (N m → ⊥) → (g.kind m ≡ signal → ⊥) → t.sto m ≡ s.sto m) → Frame g N c s t
-  frame-flags s t e₁ e₂ e₃ e₄ e₅ e₆ vr ls fs cl vs = record {
+  frame_flags s t e₁ e₂ e₃ e₄ e₅ e₆ vr ls fs cl vs = record {
     lists = ls;
     subs = λ m h. ap (λ (x : ℕ → List ℕ). x m) e₁;
     gone = λ m h. ap (λ (x : ℕ → Bool). x m) e₂;
@@ -91,14 +91,14 @@ module _ (g : Given) (N : Set) (c : ℕ) where
   }
 
   pub frame_same : (s : St) → Frame g N c s s
-  frame_same s = frame-flags s s refl refl refl refl refl refl (λ l a h. refl) (λ m h. (refl, refl)) (λ m h k. refl) (λ m q. q) (λ m h k. refl)
+  frame_same s = frame_flags s s refl refl refl refl refl refl (λ l a h. refl) (λ m h. (refl, refl)) (λ m h k. refl) (λ m q. q) (λ m h k. refl)
 
   -- a link of t whose subscriber is outside N is one of s
-  pub was-link : (s t : St) → Slots g s → Slots g t → Frame g N c s t → (l u : ℕ) → t.live l ≡ true → t.sub l ≡ u → (N u → ⊥) → (s.live l ≡ true) × (s.sub l ≡ u) × (t.dep l ≡ s.dep l)
-  was-link s t a b f l u lv e h =
-      let x : In l (deps t u) = subst (λ (z : ℕ). In l (deps t z)) e (b.live-in-deps l lv) in
+  pub was_link : (s t : St) → Slots g s → Slots g t → Frame g N c s t → (l u : ℕ) → t.live l ≡ true → t.sub l ≡ u → (N u → ⊥) → (s.live l ≡ true) × (s.sub l ≡ u) × (t.dep l ≡ s.dep l)
+  was_link s t a b f l u lv e h =
+      let x : In l (deps t u) = subst (λ (z : ℕ). In l (deps t z)) e (b.live_in_deps l lv) in
       let same : deps t u ≡ deps s u = ap₂ (λ (p q : List ℕ). p ++ q) (f.lists u h).0 (f.lists u h).1 in
-      let y = a.deps-live l u (subst (In l) same x) in
+      let y = a.deps_live l u (subst (In l) same x) in
       (y.0, y.1, (f.links l y.0 (λ n. h (subst N y.1 n))).1)
 
   pub frame_then : (s t x : St) → Slots g s → Slots g t → Frame g N c s t → Frame g N c t x → Frame g N c s x
@@ -124,7 +124,7 @@ module _ (g : Given) (N : Set) (c : ℕ) where
       back : (u : ℕ) → (N u → ⊥) → Soiled g c t u → Soiled g c s u
       back u h z =
           let l = z.link in
-          let w = was-link s t a b p l u z.live z.to h in
+          let w = was_link s t a b p l u z.live z.to h in
           let e : t.dep l ≡ s.dep l = w.2 in
           record {
             link = l;
@@ -135,8 +135,8 @@ module _ (g : Given) (N : Set) (c : ℕ) where
             low = subst (λ (n : ℕ). n < c) e z.low;
           }
 
-pub frame-wider : (g : Given) (N M : Set) (c b : ℕ) (s t : St) → ((m : ℕ) → N m → M m) → c ≤ b → Frame g N c s t → Frame g M b s t
-frame-wider g N M c b s t h le f = record {
+pub frame_wider : (g : Given) (N M : Set) (c b : ℕ) (s t : St) → ((m : ℕ) → N m → M m) → c ≤ b → Frame g N c s t → Frame g M b s t
+frame_wider g N M c b s t h le f = record {
   lists = λ m a. f.lists m (λ n. a (h m n));
   subs = λ m a. f.subs m (λ r. let x = a r in omega arith);
   gone = f.gone;
@@ -155,23 +155,23 @@ frame-wider g N M c b s t h le f = record {
 
 module _ (g : Given) (st : Static g) where
   -- a node outside N keeps its read links
-  pub frame-reads : (X N : Set) (c : ℕ) (s t : St) (e : ℕ) → Inside g X s → Frame g N c s t → (N e → ⊥) → SameReads g.kind s t e
-  frame-reads X N c s t e i f h = reads-lists g.kind s t e (f.lists e h) (λ l j. let x = i.lists.deps-live l e j in ((f.links l x.0 (λ z. h (subst N x.1 z))).1, f.ver l x.0 (λ z. h (subst N x.1 z))))
+  pub frame_reads : (X N : Set) (c : ℕ) (s t : St) (e : ℕ) → Inside g X s → Frame g N c s t → (N e → ⊥) → SameReads g.kind s t e
+  frame_reads X N c s t e i f h = reads_lists g.kind s t e (f.lists e h) (λ l j. let x = i.lists.deps_live l e j in ((f.links l x.0 (λ z. h (subst N x.1 z))).1, f.ver l x.0 (λ z. h (subst N x.1 z))))
 
   -- what a node outside N pays for stays as it is
-  pub paid-frame : (X : Set) (N : Set) (c : ℕ) (s t : St) (n : ℕ) → Inside g X s → Inside g X t → Frame g N c s t → n < g.size → (N n → ⊥) → Paid g s n → Paid g t n
-  paid-frame X N c s t n i j f h a p =
+  pub paid_frame : (X : Set) (N : Set) (c : ℕ) (s t : St) (n : ℕ) → Inside g X s → Inside g X t → Frame g N c s t → n < g.size → (N n → ⊥) → Paid g s n → Paid g t n
+  paid_frame X N c s t n i j f h a p =
       let links : deps t n ≡ deps s n = ap₂ (λ (x y : List ℕ). x ++ y) (f.lists n a).0 (f.lists n a).1 in
-      let ends : readLinks g.kind t.dep (deps s n) ≡ readLinks g.kind s.dep (deps s n) =
-      reads-agree g.kind s.dep t.dep (deps s n) (λ l k. let x = i.lists.deps-live l n k in (f.links l x.0 (λ z. a (subst N x.1 z))).1) in
-      let reads = ap length (ap (readLinks g.kind t.dep) links ∙ ends) in
+      let ends : read_links g.kind t.dep (deps s n) ≡ read_links g.kind s.dep (deps s n) =
+      reads_agree g.kind s.dep t.dep (deps s n) (λ l k. let x = i.lists.deps_live l n k in (f.links l x.0 (λ z. a (subst N x.1 z))).1) in
+      let reads = ap length (ap (read_links g.kind t.dep) links ∙ ends) in
       let own = ap length (owners (readable (g.kind n)) refl) in
-      let spent : spends g t n ≡ spends g s n = ap (λ (b : Bool). reserveOf (g.kind n) b (g.form n) (g.owner n)) gone_same in
+      let spent : spends g t n ≡ spends g s n = ap (λ (b : Bool). reserve_of (g.kind n) b (g.form n) (g.owner n)) gone_same in
       let e = p.enough in
       record { enough = omega arith }
     where
       gone_same : t.gone n ≡ s.gone n
-      gone_same = either (readable (g.kind n)) (λ r. j.gone-kind n h r ∙ sym (i.gone-kind n h r)) (λ r. f.gone n r)
+      gone_same = either (readable (g.kind n)) (λ r. j.gone_kind n h r ∙ sym (i.gone_kind n h r)) (λ r. f.gone n r)
 
       owners : (b : Bool) → readable (g.kind n) ≡ b → ◌≡◌ {A = List ℕ} (elim b [ true ↦ [] | false ↦ t.subs n ]) (elim b [ true ↦ [] | false ↦ s.subs n ])
       owners true r = refl
@@ -182,36 +182,36 @@ module _ (g : Given) (st : Static g) where
     pub known : (n : ℕ) → X n ⊎ (X n → ⊥)
     pub pays : (n : ℕ) → n < g.size → X n → Paid g s n
 
-  pub open-frame : (X : Set) (N : Set) (c : ℕ) (s t : St) → Inside g X s → Inside g X t → Frame g N c s t → ((n : ℕ) → X n → N n → ⊥) → Open X s → Open X t
-  open-frame X N c s t i j f a o = record { known = o.known; pays = λ n h x. paid-frame X N c s t n i j f h (a n x) (o.pays n h x) }
+  pub open_frame : (X : Set) (N : Set) (c : ℕ) (s t : St) → Inside g X s → Inside g X t → Frame g N c s t → ((n : ℕ) → X n → N n → ⊥) → Open X s → Open X t
+  open_frame X N c s t i j f a o = record { known = o.known; pays = λ n h x. paid_frame X N c s t n i j f h (a n x) (o.pays n h x) }
 
   -- ---- a signal or computed that is clean
-  pub rests-clean : (queue : List ℕ) (dep sub : ℕ → ℕ) (n : ℕ) (f : Named) (b : Bool) (done rest subs : List ℕ) → n < g.size → readable (g.kind n) ≡ true → f ≡ f1 → b ≡ false → rest ≡ []
-      → length (readLinks g.kind dep done) ≤ length (names (g.form n)) → AtRest g queue dep sub n f b done rest subs
-  rests-clean queue dep sub n f b done rest subs h r e a t few = record {
+  pub rests_clean : (queue : List ℕ) (dep sub : ℕ → ℕ) (n : ℕ) (f : Named) (b : Bool) (done rest subs : List ℕ) → n < g.size → readable (g.kind n) ≡ true → f ≡ f1 → b ≡ false → rest ≡ []
+      → length (read_links g.kind dep done) ≤ length (names (g.form n)) → AtRest g queue dep sub n f b done rest subs
+  rests_clean queue dep sub n f b done rest subs h r e a t few = record {
     tail = t;
-    owned = λ o x q. none-some (sym (st.owner-kind n h r) ∙ q);
+    owned = λ o x q. none_some (sym (st.owner_kind n h r) ∙ q);
     unowned = λ x q. clash r x;
     bare = λ x. clash x a;
     few = few;
-    of-signal = λ k. inl e;
-    of-computed = λ k. clean e;
-    of-effect = λ k x. clash r (ap readable k);
-    of-scope = λ k. clash r (ap readable k);
-    of-gone = λ k x. clash r (ap readable k);
+    of_signal = λ k. inl e;
+    of_computed = λ k. clean e;
+    of_effect = λ k x. clash r (ap readable k);
+    of_scope = λ k. clash r (ap readable k);
+    of_gone = λ k x. clash r (ap readable k);
     queued = λ j x. clash x a;
   }
 
-  pub signal-lists : (X : Set) (s : St) → Inside g X s → (n : ℕ) → g.kind n ≡ signal → (s.done n ≡ []) × (s.rest n ≡ [])
-  signal-lists X s i n e = append-is-nil (s.done n) (s.rest n) (none-nil (deps s n) (λ l j. let x = i.lists.deps-live l n j in (i.goes l x.0).of-signal (ap g.kind x.1 ∙ e)))
+  pub signal_lists : (X : Set) (s : St) → Inside g X s → (n : ℕ) → g.kind n ≡ signal → (s.done n ≡ []) × (s.rest n ≡ [])
+  signal_lists X s i n e = append_is_nil (s.done n) (s.rest n) (none_nil (deps s n) (λ l j. let x = i.lists.deps_live l n j in (i.goes l x.0).of_signal (ap g.kind x.1 ∙ e)))
 
   -- ---- the purge of a computed
-  pub purge-frame : (X : Set) (s t : St) (n : ℕ) → Inside g X s → n < g.size → g.kind n ≡ computed → Purged g st X s n t → t.sto ≡ s.sto → Frame g (Low g (suc (rank n))) (rank n) s t
-  purge-frame X s t n i h k p vs =
+  pub purge_frame : (X : Set) (s t : St) (n : ℕ) → Inside g X s → n < g.size → g.kind n ≡ computed → Purged g st X s n t → t.sto ≡ s.sto → Frame g (Low g (suc (rank n))) (rank n) s t
+  purge_frame X s t n i h k p vs =
       let d = p.dropped in
       record {
         lists = λ m a. by_kind m a;
-        subs = λ m a. d.subs m (λ z. strict-low m z a);
+        subs = λ m a. d.subs m (λ z. strict_low m z a);
         gone = λ m r. (d.flags m (λ z. clash rn (z.0.high r).0)).1;
         links = λ l lv a. (alive l lv a, ap (λ (x : ℕ → ℕ). x l) d.dep, ap (λ (x : ℕ → ℕ). x l) d.sub);
         ver = λ l lv a. ap (λ (x : ℕ → ℕ). x l) d.ver;
@@ -226,8 +226,8 @@ module _ (g : Given) (st : Static g) where
       rn : readable (g.kind n) ≡ true
       rn = ap readable k
 
-      strict-low : (m : ℕ) → Under g n m × (m ≡ n → ⊥) → (readable (g.kind m) ≡ true → rank n ≤ rank m) → ⊥
-      strict-low m z a = either (readable (g.kind m)) (λ r. let x = z.0.low r rn in let y = a r in let w = z.1 in omega (arith, w)) (λ r. clash rn (z.0.high r).0)
+      strict_low : (m : ℕ) → Under g n m × (m ≡ n → ⊥) → (readable (g.kind m) ≡ true → rank n ≤ rank m) → ⊥
+      strict_low m z a = either (readable (g.kind m)) (λ r. let x = z.0.low r rn in let y = a r in let w = z.1 in omega (arith, w)) (λ r. clash rn (z.0.high r).0)
 
       not_low : (m : ℕ) → (Low g (suc (rank n)) m → ⊥) → (g.kind m ≡ signal → ⊥) → Under g n m × (m ≡ n → ⊥) → ⊥
       not_low m a q z = go (g.kind m) refl
@@ -248,8 +248,8 @@ module _ (g : Given) (st : Static g) where
           far q = p.dropped.lists m (not_low m a q) (other m a)
 
           go : (x : Kind) → g.kind m ≡ x → (t.done m ≡ s.done m) × (t.rest m ≡ s.rest m)
-          go signal e = let x = signal-lists X s i m e in let y = signal-lists X t p.inside m e in (y.0 ∙ sym x.0, y.1 ∙ sym x.1)
-          go computed e = far (λ q. clash (ap aComputed e) (ap aComputed q))
+          go signal e = let x = signal_lists X s i m e in let y = signal_lists X t p.inside m e in (y.0 ∙ sym x.0, y.1 ∙ sym x.1)
+          go computed e = far (λ q. clash (ap a_computed e) (ap a_computed q))
           go effect e = far (λ q. clash (ap readable q) (ap readable e))
           go scope e = far (λ q. clash (ap readable q) (ap readable e))
 
@@ -257,10 +257,10 @@ module _ (g : Given) (st : Static g) where
       alive l lv a =
           let x = by_kind (s.sub l) a in
           let y : deps t (s.sub l) ≡ deps s (s.sub l) = ap₂ (λ (u v : List ℕ). u ++ v) x.0 x.1 in
-          (p.inside.lists.deps-live l (s.sub l) (subst (In l) (sym y) (i.lists.live-in-deps l lv))).0
+          (p.inside.lists.deps_live l (s.sub l) (subst (In l) (sym y) (i.lists.live_in_deps l lv))).0
 
       keeps : (l : ℕ) → s.live l ≡ true → (Low g (suc (rank n)) (s.sub l) → ⊥) → s.fl (s.dep l) ≡ f1 → (t.fl (s.dep l) ≡ s.fl (s.dep l)) ⊎ (t.subs (s.dep l) ≡ []) → t.fl (s.dep l) ≡ f1
       keeps l lv a e (inl q) = q ∙ e
       keeps l lv a e (inr q) =
-          absurd (nil-none (t.subs (s.dep l)) l q
-          (subst (λ (z : ℕ). In l (t.subs z)) (ap (λ (x : ℕ → ℕ). x l) p.dropped.dep) (p.inside.lists.live-in-subs l (alive l lv a))))
+          absurd (nil_none (t.subs (s.dep l)) l q
+          (subst (λ (z : ℕ). In l (t.subs z)) (ap (λ (x : ℕ → ℕ). x l) p.dropped.dep) (p.inside.lists.live_in_subs l (alive l lv a))))

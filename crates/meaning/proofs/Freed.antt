@@ -8,9 +8,9 @@ use Rattle.meaning.specs.Links.{insert, cut}
 use Rattle.meaning.proofs.Laws.{up_same}
 
 -- a slot that is freed comes first
-pub freed-first : (s : St) (l : ℕ) → ((cut s l).free ≡ l ∷ s.free) × ((cut s l).live l ≡ false)
+pub freed_first : (s : St) (l : ℕ) → ((cut s l).free ≡ l ∷ s.free) × ((cut s l).live l ≡ false)
 unfolding cut
-freed-first s l = (refl, up_same s.live l false)
+freed_first s l = (refl, up_same s.live l false)
 
 -- and the first is taken
 pub first_taken : (s : St) (d u v l : ℕ) (ls : List ℕ)

@@ -10,19 +10,19 @@ use Rattle.flags.specs.declared.Named.{Named}
 use Rattle.values.specs.declared.Value.{Value}
 use Rattle.values.specs.Values.{value, sum, same}
 use Rattle.trees.specs.Trees.{Tree, constant}
-use Rattle.meaning.specs.State.{St, Kind, signal, computed, effect, scope, aSignal, f0, f1, f2, f6, f17, nothing}
-use Rattle.meaning.specs.Setters.{withLog, withDepth, setFl, setPend}
-use Rattle.meaning.specs.Links.{isNil, link}
+use Rattle.meaning.specs.State.{St, Kind, signal, computed, effect, scope, a_signal, f0, f1, f2, f6, f17, nothing}
+use Rattle.meaning.specs.Setters.{with_log, with_depth, set_fl, set_pend}
+use Rattle.meaning.specs.Links.{is_nil, link}
 use Rattle.meaning.specs.Marks.{propagate}
 use Rattle.meaning.specs.Reads.{evaluate}
-use Rattle.meaning.specs.Engine.{logged, run, flushOn, flushAt, store, node, owned, newSignal, newComputed, newScope, newEffect, end_at}
-use Rattle.meaning.specs.Words.{Command, makeSignal, makeComputed, makeEffect, makeScope, set_to, addTo, read_of, disposeOf, batchStart, batchEnd, commandOf, nodeOf, ownerOf, formulaOf}
+use Rattle.meaning.specs.Engine.{logged, run, flush_on, flush_at, store, node, owned, new_signal, new_computed, new_scope, new_effect, end_at}
+use Rattle.meaning.specs.Words.{Command, make_signal, make_computed, make_effect, make_scope, set_to, add_to, read_of, dispose_of, batch_start, batch_end, command_of, node_of, owner_of, formula_of}
 use Rattle.meaning.specs.Refusals.{sight_of, refusal}
-use Rattle.meaning.specs.Commands.{perform, performAny, answer, command}
-use Rattle.meaning.specs.Outcome.{madeBy}
-use Rattle.meaning.proofs.Laws.{branch, provided-by, up-other}
-use Rattle.meaning.proofs.Rings.{Drops, Renews, Runs, weaker-drops, weaker-renews, dispose-ring, settle-ring, evaluate-ring, run-ring, flush-ring}
-use Rattle.meaning.proofs.Still.{Given, given, Fixed, Still, link-still, drops-still, renews-still}
+use Rattle.meaning.specs.Commands.{perform, perform_any, answer, command}
+use Rattle.meaning.specs.Outcome.{made_by}
+use Rattle.meaning.proofs.Laws.{branch, provided_by, up_other}
+use Rattle.meaning.proofs.Rings.{Drops, Renews, Runs, weaker_drops, weaker_renews, dispose_ring, settle_ring, evaluate_ring, run_ring, flush_ring}
+use Rattle.meaning.proofs.Still.{Given, given, Fixed, Still, link_still, drops_still, renews_still}
 
 -- ---- what only the making of a node touches; and gone is for good
 pub record Keeps (s t : St) : Type 0 where
@@ -35,45 +35,45 @@ keeps s = record { still = refl; gone = λ n e. e }
 keeps_then : (s t x : St) → Keeps s t → Keeps t x → Keeps s x
 keeps_then s t x p q = record { still = q.still ∙ p.still; gone = λ n e. q.gone n (p.gone n e) }
 
-still-keeps : (s t : St) → Still s t → Keeps s t
-still-keeps s t p = record { still = ap (λ (f : Fixed). f.nodes) p.same; gone = p.gone }
+still_keeps : (s t : St) → Still s t → Keeps s t
+still_keeps s t p = record { still = ap (λ (f : Fixed). f.nodes) p.same; gone = p.gone }
 
-link-keeps : (s : St) (d u v : ℕ) → Keeps s (link s d u v)
-link-keeps s d u v = still-keeps s _ (link-still s d u v)
+link_keeps : (s : St) (d u v : ℕ) → Keeps s (link s d u v)
+link_keeps s d u v = still_keeps s _ (link_still s d u v)
 
 drops : Drops Keeps
-drops = weaker-drops Still Keeps still-keeps keeps_then drops-still
+drops = weaker_drops Still Keeps still_keeps keeps_then drops_still
 
 renews : Renews Keeps
-renews = weaker-renews Still Keeps still-keeps keeps_then renews-still
+renews = weaker_renews Still Keeps still_keeps keeps_then renews_still
 
 runs : Runs Keeps
 runs = record { renews = renews; logs = λ s l. record { still = refl; gone = λ n e. e } }
 
-pub run-keeps : (s : St) (e : ℕ) → Keeps s (run s e)
-run-keeps = run-ring Keeps runs
+pub run_keeps : (s : St) (e : ℕ) → Keeps s (run s e)
+run_keeps = run_ring Keeps runs
 
-pub flushOn-keeps : (q : List ℕ) (s : St) → Keeps s (flushOn s q)
-flushOn-keeps = flush-ring Keeps runs (λ s q. record { still = refl; gone = λ n e. e })
+pub flush_on-keeps : (q : List ℕ) (s : St) → Keeps s (flush_on s q)
+flush_on-keeps = flush_ring Keeps runs (λ s q. record { still = refl; gone = λ n e. e })
 
 pub store_keeps : (s : St) (n : ℕ) (v : Value) → Keeps s (store s n v)
 unfolding store
 store_keeps s n v =
-    let t = setFl (setPend s n v) n f17 in
+    let t = set_fl (set_pend s n v) n f17 in
     let p = propagate t n in
     let a : Keeps s p = record { still = refl; gone = λ n e. e } in
     let k = branch (Keeps s) (same (s.pend n) v) (λ e. keeps s)
-    (λ e. branch (Keeps s) (isNil (s.subs n)) (λ f. record { still = refl; gone = λ n e. e }) (λ f. keeps_then s p _ a (at p p.depth))) in
-    provided-by (Keeps s) (aSignal (s.kind n)) k (record { still = k.still; gone = k.gone })
+    (λ e. branch (Keeps s) (is_nil (s.subs n)) (λ f. record { still = refl; gone = λ n e. e }) (λ f. keeps_then s p _ a (at p p.depth))) in
+    provided_by (Keeps s) (a_signal (s.kind n)) k (record { still = k.still; gone = k.gone })
   where
-    at : (p : St) (d : ℕ) → Keeps p (flushAt p d)
-    at p zero = flushOn-keeps p.queue p
+    at : (p : St) (d : ℕ) → Keeps p (flush_at p d)
+    at p zero = flush_on-keeps p.queue p
     at p (suc d) = keeps p
 
-end-keeps : (s : St) (d : ℕ) → Keeps s (end_at s d)
-end-keeps s zero = record { still = refl; gone = λ n e. e }
-end-keeps s (suc zero) = let t = withDepth s 0 in keeps_then s t _ (record { still = refl; gone = λ n e. e }) (flushOn-keeps s.queue t)
-end-keeps s (suc (suc d)) = record { still = refl; gone = λ n e. e }
+end_keeps : (s : St) (d : ℕ) → Keeps s (end_at s d)
+end_keeps s zero = record { still = refl; gone = λ n e. e }
+end_keeps s (suc zero) = let t = with_depth s 0 in keeps_then s t _ (record { still = refl; gone = λ n e. e }) (flush_on-keeps s.queue t)
+end_keeps s (suc (suc d)) = record { still = refl; gone = λ n e. e }
 
 sized : (s t : St) → Keeps s t → t.size ≡ s.size
 sized s t k = ap (λ (g : Given). g.size) k.still
@@ -89,8 +89,8 @@ pub record Stays (s t : St) : Type 0 where
   pub level : (n : ℕ) → n < s.size → t.level n ≡ s.level n
   pub gone : (n : ℕ) → n < s.size → s.gone n ≡ true → t.gone n ≡ true
 
-kept-stays : (s t : St) → Keeps s t → Stays s t
-kept-stays s t k =
+kept_stays : (s t : St) → Keeps s t → Stays s t
+kept_stays s t k =
     let e = sized s t k in
     let c : t.used ≡ s.used = ap (λ (g : Given). g.used) k.still in
     record {
@@ -127,65 +127,65 @@ node_stays s k t o b v = record {
   room = refl;
   more = omega arith;
   cells = omega arith;
-  kind = λ n h. up-other s.kind s.size k n (λ e. omega arith);
-  form = λ n h. up-other s.form s.size t n (λ e. omega arith);
-  owner = λ n h. up-other s.owner s.size o n (λ e. omega arith);
-  level = λ n h. up-other s.level s.size _ n (λ e. omega arith);
-  gone = λ n h e. up-other s.gone s.size false n (λ e. omega arith) ∙ e;
+  kind = λ n h. up_other s.kind s.size k n (λ e. omega arith);
+  form = λ n h. up_other s.form s.size t n (λ e. omega arith);
+  owner = λ n h. up_other s.owner s.size o n (λ e. omega arith);
+  level = λ n h. up_other s.level s.size _ n (λ e. omega arith);
+  gone = λ n h e. up_other s.gone s.size false n (λ e. omega arith) ∙ e;
 }
 
-owned-keeps : (s : St) (n : ℕ) (o : Option ℕ) → Keeps s (owned s n o)
-owned-keeps s n none = keeps s
-owned-keeps s n (some o) = link-keeps s n o 0
+owned_keeps : (s : St) (n : ℕ) (o : Option ℕ) → Keeps s (owned s n o)
+owned_keeps s n none = keeps s
+owned_keeps s n (some o) = link_keeps s n o 0
 
-effect-keeps : (s : St) (o : Option ℕ) (t : Tree) → Keeps (node s effect t o f6 nothing) (newEffect s o t)
-unfolding newEffect logged
-effect-keeps s o t =
+effect_keeps : (s : St) (o : Option ℕ) (t : Tree) → Keeps (node s effect t o f6 nothing) (new_effect s o t)
+unfolding new_effect logged
+effect_keeps s o t =
     let n = s.size in
     let a = node s effect t o f6 nothing in
     let b = owned a n o in
     let r = evaluate b n in
-    let k : Keeps a r.st = keeps_then a b r.st (owned-keeps a n o) (evaluate-ring Keeps renews b n) in
-    keeps_then a r.st (setFl (logged r n) n f2) k (record { still = refl; gone = λ n e. e })
+    let k : Keeps a r.st = keeps_then a b r.st (owned_keeps a n o) (evaluate_ring Keeps renews b n) in
+    keeps_then a r.st (set_fl (logged r n) n f2) k (record { still = refl; gone = λ n e. e })
 
-perform-stays : (s : St) (c : Command) → Stays s (perform s c).st
-unfolding perform newSignal newComputed newScope
-perform-stays s (makeSignal v) = node_stays s signal (constant (pos 0)) none f1 _
-perform-stays s (makeComputed cs) = node_stays s computed (formulaOf cs) none f0 nothing
-perform-stays s (makeEffect o cs) = stays_then s _ _ (node_stays s effect (formulaOf cs) (ownerOf o) f6 nothing) (kept-stays _ _ (effect-keeps s (ownerOf o) (formulaOf cs)))
-perform-stays s (makeScope o) =
-    let a = node s scope (constant (pos 0)) (ownerOf o) f0 nothing in
-    stays_then s a _ (node_stays s scope (constant (pos 0)) (ownerOf o) f0 nothing) (kept-stays a _ (owned-keeps a s.size (ownerOf o)))
-perform-stays s (set_to n v) = kept-stays s _ (store_keeps s (nodeOf n) _)
-perform-stays s (addTo n d) = kept-stays s _ (store_keeps s (nodeOf n) _)
-perform-stays s (read_of n) = kept-stays s _ (settle-ring Keeps renews s (nodeOf n))
-perform-stays s (disposeOf n) = kept-stays s _ (dispose-ring Keeps drops s (nodeOf n))
-perform-stays s batchStart = kept-stays s _ (record { still = refl; gone = λ n e. e })
-perform-stays s batchEnd = kept-stays s _ (end-keeps s s.depth)
+perform_stays : (s : St) (c : Command) → Stays s (perform s c).st
+unfolding perform new_signal new_computed new_scope
+perform_stays s (make_signal v) = node_stays s signal (constant (pos 0)) none f1 _
+perform_stays s (make_computed cs) = node_stays s computed (formula_of cs) none f0 nothing
+perform_stays s (make_effect o cs) = stays_then s _ _ (node_stays s effect (formula_of cs) (owner_of o) f6 nothing) (kept_stays _ _ (effect_keeps s (owner_of o) (formula_of cs)))
+perform_stays s (make_scope o) =
+    let a = node s scope (constant (pos 0)) (owner_of o) f0 nothing in
+    stays_then s a _ (node_stays s scope (constant (pos 0)) (owner_of o) f0 nothing) (kept_stays a _ (owned_keeps a s.size (owner_of o)))
+perform_stays s (set_to n v) = kept_stays s _ (store_keeps s (node_of n) _)
+perform_stays s (add_to n d) = kept_stays s _ (store_keeps s (node_of n) _)
+perform_stays s (read_of n) = kept_stays s _ (settle_ring Keeps renews s (node_of n))
+perform_stays s (dispose_of n) = kept_stays s _ (dispose_ring Keeps drops s (node_of n))
+perform_stays s batch_start = kept_stays s _ (record { still = refl; gone = λ n e. e })
+perform_stays s batch_end = kept_stays s _ (end_keeps s s.depth)
 
 -- one node more, or none
-pub perform-makes : (s : St) (c : Command) → (perform s c).st.size ≡ s.size + madeBy c
-unfolding perform newSignal newComputed newScope
-perform-makes s (makeSignal v) = omega arith
-perform-makes s (makeComputed cs) = omega arith
-perform-makes s (makeEffect o cs) = let e = sized _ _ (effect-keeps s (ownerOf o) (formulaOf cs)) in omega arith
-perform-makes s (makeScope o) = let e = sized _ _ (owned-keeps (node s scope (constant (pos 0)) (ownerOf o) f0 nothing) s.size (ownerOf o)) in omega arith
-perform-makes s (set_to n v) = let e = sized _ _ (store_keeps s (nodeOf n) (value v)) in omega arith
-perform-makes s (addTo n d) = let e = sized _ _ (store_keeps s (nodeOf n) (sum (s.sto (nodeOf n)) (value d))) in omega arith
-perform-makes s (read_of n) = let e = sized _ _ (settle-ring Keeps renews s (nodeOf n)) in omega arith
-perform-makes s (disposeOf n) = let e = sized _ _ (dispose-ring Keeps drops s (nodeOf n)) in omega arith
-perform-makes s batchStart = omega arith
-perform-makes s batchEnd = let e = sized _ _ (end-keeps s s.depth) in omega arith
+pub perform_makes : (s : St) (c : Command) → (perform s c).st.size ≡ s.size + made_by c
+unfolding perform new_signal new_computed new_scope
+perform_makes s (make_signal v) = omega arith
+perform_makes s (make_computed cs) = omega arith
+perform_makes s (make_effect o cs) = let e = sized _ _ (effect_keeps s (owner_of o) (formula_of cs)) in omega arith
+perform_makes s (make_scope o) = let e = sized _ _ (owned_keeps (node s scope (constant (pos 0)) (owner_of o) f0 nothing) s.size (owner_of o)) in omega arith
+perform_makes s (set_to n v) = let e = sized _ _ (store_keeps s (node_of n) (value v)) in omega arith
+perform_makes s (add_to n d) = let e = sized _ _ (store_keeps s (node_of n) (sum (s.sto (node_of n)) (value d))) in omega arith
+perform_makes s (read_of n) = let e = sized _ _ (settle_ring Keeps renews s (node_of n)) in omega arith
+perform_makes s (dispose_of n) = let e = sized _ _ (dispose_ring Keeps drops s (node_of n)) in omega arith
+perform_makes s batch_start = omega arith
+perform_makes s batch_end = let e = sized _ _ (end_keeps s s.depth) in omega arith
 
-any-stays : (s : St) (c : Option Command) → Stays s (performAny s c).st
-unfolding performAny
-any-stays s none = kept-stays s _ (record { still = refl; gone = λ n e. e })
-any-stays s (some c) = perform-stays s c
+any_stays : (s : St) (c : Option Command) → Stays s (perform_any s c).st
+unfolding perform_any
+any_stays s none = kept_stays s _ (record { still = refl; gone = λ n e. e })
+any_stays s (some c) = perform_stays s c
 
-pub command-stays : (well : Bool) (s : St) (rows : ℕ) (ws : List ℤ) → Stays s (command well s rows ws).st
+pub command_stays : (well : Bool) (s : St) (rows : ℕ) (ws : List ℤ) → Stays s (command well s rows ws).st
 unfolding command answer
-command-stays well s rows ws = go (refusal well (sight_of s rows) ws)
+command_stays well s rows ws = go (refusal well (sight_of s rows) ws)
   where
     go : (r : ℕ) → Stays s (answer r s ws).st
-    go zero = stays_then s (withLog s []) _ (kept-stays s (withLog s []) (record { still = refl; gone = λ n e. e })) (any-stays (withLog s []) (commandOf ws))
-    go (suc r) = kept-stays s s (keeps s)
+    go zero = stays_then s (with_log s []) _ (kept_stays s (with_log s []) (record { still = refl; gone = λ n e. e })) (any_stays (with_log s []) (command_of ws))
+    go (suc r) = kept_stays s s (keeps s)

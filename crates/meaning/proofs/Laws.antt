@@ -35,42 +35,42 @@ branches P true f g = f refl
 branches P false f g = g refl
 
 -- ---- `provided`: the test holds
-pub provided-same : (b : Bool) (s : St) → b ≡ true → provided b s ≡ s
+pub provided_same : (b : Bool) (s : St) → b ≡ true → provided b s ≡ s
 unfolding provided
-provided-same b s h = branch (λ (x : St). x ≡ s) b (λ e. refl) (λ e. clash h e)
+provided_same b s h = branch (λ (x : St). x ≡ s) b (λ e. refl) (λ e. clash h e)
 
-pub provided-so : (P : St → Type 0) (b : Bool) {s : St} → b ≡ true → P s → P (provided b s)
-provided-so P b {s} h p = subst P (sym (provided-same b s h)) p
+pub provided_so : (P : St → Type 0) (b : Bool) {s : St} → b ≡ true → P s → P (provided b s)
+provided_so P b {s} h p = subst P (sym (provided_same b s h)) p
 
 -- or it may not
-pub provided-by : (P : St → Type 0) (b : Bool) {s : St} → P s → P (stop s) → P (provided b s)
+pub provided_by : (P : St → Type 0) (b : Bool) {s : St} → P s → P (stop s) → P (provided b s)
 unfolding provided
-provided-by P b p q = branch P b (λ e. p) (λ e. q)
+provided_by P b p q = branch P b (λ e. p) (λ e. q)
 
 -- ---- or
-pub or-true : (b : Bool) → b || true ≡ true
-or-true true = refl
-or-true false = refl
+pub or_true : (b : Bool) → b || true ≡ true
+or_true true = refl
+or_true false = refl
 
-pub or-first : (a b : Bool) → a ≡ true → a || b ≡ true
-or-first true b e = refl
-or-first false b e = false≢true e
+pub or_first : (a b : Bool) → a ≡ true → a || b ≡ true
+or_first true b e = refl
+or_first false b e = false≢true e
 
-pub or-last : (a b : Bool) → b ≡ true → a || b ≡ true
-or-last true b e = refl
-or-last false b e = e
+pub or_last : (a b : Bool) → b ≡ true → a || b ≡ true
+or_last true b e = refl
+or_last false b e = e
 
-pub or-one : (a b : Bool) → a || b ≡ true → a ≡ false → b ≡ true
-or-one true b e f = false≢true (sym f)
-or-one false b e f = e
+pub or_one : (a b : Bool) → a || b ≡ true → a ≡ false → b ≡ true
+or_one true b e f = false≢true (sym f)
+or_one false b e f = e
 
-pub or-none : (a b : Bool) → a ≡ false → b ≡ false → a || b ≡ false
-or-none true b e f = e
-or-none false b e f = f
+pub or_none : (a b : Bool) → a ≡ false → b ≡ false → a || b ≡ false
+or_none true b e f = e
+or_none false b e f = f
 
-pub or-false : (b : Bool) → b || false ≡ b
-or-false true = refl
-or-false false = refl
+pub or_false : (b : Bool) → b || false ≡ b
+or_false true = refl
+or_false false = refl
 
 pub or_left : (a b : Bool) → a || b ≡ false → a ≡ false
 or_left true b e = e
@@ -81,8 +81,8 @@ or_right true b e = false≢true (sym e)
 or_right false b e = e
 
 -- ---- options
-pub none-some : {C : Type 0} {A : Type 0} {x : A} → none ≡ some x → C
-none-some e = let z : ◌≡◌ {A = ℕ} 0 1 = cc in absurd (omega arith)
+pub none_some : {C : Type 0} {A : Type 0} {x : A} → none ≡ some x → C
+none_some e = let z : ◌≡◌ {A = ℕ} 0 1 = cc in absurd (omega arith)
 
 pub same_some : {A : Type 0} {x y : A} → some x ≡ some y → x ≡ y
 same_some e = cc
@@ -93,9 +93,9 @@ module _ {ℓ} {A : Type ℓ} (f : ℕ → A) (n : ℕ) (v : A) where
   unfolding up
   up_same = rw (eq-eqb n n refl, up)
 
-  pub up-other : (m : ℕ) → (m ≡ n → ⊥) → up f n v m ≡ f m
+  pub up_other : (m : ℕ) → (m ≡ n → ⊥) → up f n v m ≡ f m
   unfolding up
-  up-other m h = rw (ne_eqb m n h, up)
+  up_other m h = rw (ne_eqb m n h, up)
 
   -- a property of a place after a change at n: of what was put there, and of what stood elsewhere
   pub up_by {κ} : (P : A → Type κ) (m : ℕ) → (m ≡ n → P v) → ((m ≡ n → ⊥) → P (f m)) → P (up f n v m)
@@ -111,7 +111,7 @@ pub in_right : (n : ℕ) (xs ys : List ℕ) → In n ys → In n (xs ++ ys)
 in_right n [] ys i = i
 in_right n (x ∷ xs) ys i = inr (in_right n xs ys i)
 
-pub in-cases {ℓ} : {C : Type ℓ} (n : ℕ) (xs ys : List ℕ) → In n (xs ++ ys) → (In n xs → C) → (In n ys → C) → C
-in-cases n [] ys i f g = g i
-in-cases n (x ∷ xs) ys (inl e) f g = f (inl e)
-in-cases n (x ∷ xs) ys (inr i) f g = in-cases n xs ys i (λ j. f (inr j)) g
+pub in_cases {ℓ} : {C : Type ℓ} (n : ℕ) (xs ys : List ℕ) → In n (xs ++ ys) → (In n xs → C) → (In n ys → C) → C
+in_cases n [] ys i f g = g i
+in_cases n (x ∷ xs) ys (inl e) f g = f (inl e)
+in_cases n (x ∷ xs) ys (inr i) f g = in_cases n xs ys i (λ j. f (inr j)) g

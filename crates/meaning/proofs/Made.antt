@@ -14,34 +14,34 @@ use Rattle.flags.specs.declared.Named.{Named}
 use Rattle.values.specs.declared.Value.{Value}
 use Rattle.trees.specs.Trees.{Tree, constant, names}
 use Rattle.meaning.specs.State.{St, Kind, signal, computed, effect, scope, readable, deps, f0, f1, nothing, up}
-use Rattle.meaning.specs.Links.{head_of, last_of, goesTo, isFrom, spent, insert, link}
-use Rattle.meaning.specs.Marks.{isEffect}
-use Rattle.meaning.specs.Engine.{node, owned, newSignal, newComputed, newScope}
-use Rattle.meaning.specs.Reserve.{reserveOf}
-use Rattle.meaning.specs.Refusals.{mostDepth}
-use Rattle.meaning.specs.WellFormed.{In, readLinks, never, EffectFlags, WellFormed}
-use Rattle.meaning.proofs.Laws.{clash, false≢true, either, branch, or-false, none-some, same_some, up_same, up-other, in_left}
-use Rattle.meaning.proofs.Members.{reads-append, reads-agree, reads-sub}
+use Rattle.meaning.specs.Links.{head_of, last_of, goes_to, is_from, spent, insert, link}
+use Rattle.meaning.specs.Marks.{is_effect}
+use Rattle.meaning.specs.Engine.{node, owned, new_signal, new_computed, new_scope}
+use Rattle.meaning.specs.Reserve.{reserve_of}
+use Rattle.meaning.specs.Refusals.{most_depth}
+use Rattle.meaning.specs.WellFormed.{In, read_links, never, EffectFlags, WellFormed}
+use Rattle.meaning.proofs.Laws.{clash, false≢true, either, branch, or_false, none_some, same_some, up_same, up_other, in_left}
+use Rattle.meaning.proofs.Members.{reads_append, reads_agree, reads_sub}
 use Rattle.meaning.proofs.Still.{Given, given}
 use Rattle.meaning.proofs.Binding.{ReadsStay, stay_then}
-use Rattle.meaning.proofs.Inside.{nobody, also, Static, Goes, AtRest, Rests, Inside, let-out, widen, at_same, inside-rest}
-use Rattle.meaning.proofs.Dropping.{aComputed}
-use Rattle.meaning.proofs.Room.{ownerLinks, spends, Paid, rests-paid, slot-left}
-use Rattle.meaning.proofs.Linking.{at-ends, insert-inside}
-use Rattle.meaning.proofs.Frames.{rests-clean}
+use Rattle.meaning.proofs.Inside.{nobody, also, Static, Goes, AtRest, Rests, Inside, let_out, widen, at_same, inside_rest}
+use Rattle.meaning.proofs.Dropping.{a_computed}
+use Rattle.meaning.proofs.Room.{owner_links, spends, Paid, rests_paid, slot_left}
+use Rattle.meaning.proofs.Linking.{at_ends, insert_inside}
+use Rattle.meaning.proofs.Frames.{rests_clean}
 use Rattle.meaning.proofs.Running.{Owns}
-use Rattle.meaning.proofs.Making.{Fits, G, deps-new, gone-new, subs-new, kind-new, fl-new, owner-new, done-new, new-static, new-inside, new-reads}
+use Rattle.meaning.proofs.Making.{Fits, G, deps_new, gone_new, subs_new, kind_new, fl_new, owner_new, done_new, new_static, new_inside, new_reads}
 
 -- nobody is under way any more
-pub at_rest : (g : Given) (t : St) → Static g → Inside g nobody t → (t.depth ≡ 0 → t.queue ≡ []) → t.depth ≤ mostDepth → WellFormed t
-at_rest g t st i e l = inside-rest t (subst Static (sym i.same) st) (subst (λ (z : Given). Inside z nobody t) (sym i.same) i) e l
+pub at_rest : (g : Given) (t : St) → Static g → Inside g nobody t → (t.depth ≡ 0 → t.queue ≡ []) → t.depth ≤ most_depth → WellFormed t
+at_rest g t st i e l = inside_rest t (subst Static (sym i.same) st) (subst (λ (z : Given). Inside z nobody t) (sym i.same) i) e l
 
 module _ (s : St) (w : WellFormed s) (k : Kind) (t : Tree) (b : Named) (v : Value) (calm : b.pending ≡ false) where
   -- the new node with its owner's link
   pub record Made (o : Option ℕ) (fits : Fits s k t o) (x : St) : Type 0 where
     pub inside : Inside (G s w k t o b v fits) (also nobody s.size) x
     pub stuck : x.stuck ≡ s.stuck
-    pub owns : Owns (G s w k t o b v fits) (new-static s w k t o b v fits) x s.size
+    pub owns : Owns (G s w k t o b v fits) (new_static s w k t o b v fits) x s.size
     pub done : x.done s.size ≡ []
     pub rest : x.rest s.size ≡ []
     pub flag : x.fl s.size ≡ b
@@ -49,23 +49,23 @@ module _ (s : St) (w : WellFormed s) (k : Kind) (t : Tree) (b : Named) (v : Valu
     pub depth : x.depth ≡ s.depth
     pub reads : (m : ℕ) → m < s.size → ReadsStay s x m
 
-  unowned-made : (fits : Fits s k t none) → Made none fits (node s k t none b v)
-  unowned-made fits =
-      let d = done-new s w k t none b v fits in
+  unowned_made : (fits : Fits s k t none) → Made none fits (node s k t none b v)
+  unowned_made fits =
+      let d = done_new s w k t none b v fits in
       record {
-        inside = new-inside s w k t none b v fits calm;
+        inside = new_inside s w k t none b v fits calm;
         stuck = refl;
         owns = record {
-          owned = λ p q. none-some (sym (owner-new s w k t none b v fits s.size refl) ∙ q);
-          unowned = λ q. subs-new s w k t none b v fits s.size refl;
-          alive = gone-new s w k t none b v fits s.size refl;
+          owned = λ p q. none_some (sym (owner_new s w k t none b v fits s.size refl) ∙ q);
+          unowned = λ q. subs_new s w k t none b v fits s.size refl;
+          alive = gone_new s w k t none b v fits s.size refl;
         };
         done = d.0;
         rest = d.1;
-        flag = fl-new s w k t none b v fits s.size refl;
+        flag = fl_new s w k t none b v fits s.size refl;
         queue = refl;
         depth = refl;
-        reads = new-reads s w k t none b v fits;
+        reads = new_reads s w k t none b v fits;
       }
 
   module _ (p : ℕ) (fits : Fits s k t (some p)) (rk : readable k ≡ false) where
@@ -79,57 +79,57 @@ module _ (s : St) (w : WellFormed s) (k : Kind) (t : Tree) (b : Named) (v : Valu
     g = given M
 
     st : Static g
-    st = new-static s w k t (some p) b v fits
+    st = new_static s w k t (some p) b v fits
 
     i : Inside g (also nobody n) M
-    i = new-inside s w k t (some p) b v fits calm
+    i = new_inside s w k t (some p) b v fits calm
 
-    owner-ok : (p < n) × (readable (s.kind p) ≡ false) × (s.gone p ≡ false)
-    owner-ok = fits.owner p refl
+    owner_ok : (p < n) × (readable (s.kind p) ≡ false) × (s.gone p ≡ false)
+    owner_ok = fits.owner p refl
 
     low : p < g.size
-    low = let a = owner-ok.0 in omega arith
+    low = let a = owner_ok.0 in omega arith
 
     rn : readable (g.kind n) ≡ false
-    rn = ap readable (kind-new s w k t (some p) b v fits n refl) ∙ rk
+    rn = ap readable (kind_new s w k t (some p) b v fits n refl) ∙ rk
 
     other : p ≡ n → ⊥
-    other q = let a = owner-ok.0 in omega arith
+    other q = let a = owner_ok.0 in omega arith
 
     rp : readable (g.kind p) ≡ false
-    rp = ap readable (up-other s.kind n k p other) ∙ owner-ok.1
+    rp = ap readable (up_other s.kind n k p other) ∙ owner_ok.1
 
-    alive-p : M.gone p ≡ false
-    alive-p = up-other s.gone n false p other ∙ owner-ok.2
+    alive_p : M.gone p ≡ false
+    alive_p = up_other s.gone n false p other ∙ owner_ok.2
 
-    goes-up : Goes g n p
-    goes-up = record {
-      of-signal = λ q. clash (ap readable q) rp;
-      of-computed = λ q. clash (ap readable q) rp;
-      of-scope = λ q. rn;
+    goes_up : Goes g n p
+    goes_up = record {
+      of_signal = λ q. clash (ap readable q) rp;
+      of_computed = λ q. clash (ap readable q) rp;
+      of_scope = λ q. rn;
       lower = λ q. clash q rn;
       named = λ q. clash q rn;
-      owned = λ q. owner-new s w k t (some p) b v fits n refl;
+      owned = λ q. owner_new s w k t (some p) b v fits n refl;
     }
 
-    p-rests : Rests g M p
-    p-rests = i.rests p low off
+    p_rests : Rests g M p
+    p_rests = i.rests p low off
       where
         off : also nobody n p → ⊥
         off (inr q) = other q
 
     -- ---- there is a slot
-    own-most : length (ownerLinks (g.kind n) (M.subs n)) ≡ 0
-    own-most = ap (λ (x : Bool). length {A = ℕ} (elim x as (λ (y : Bool). List ℕ) [ true ↦ [] | false ↦ M.subs n ])) rn ∙ ap length (subs-new s w k t (some p) b v fits n refl)
+    own_most : length (owner_links (g.kind n) (M.subs n)) ≡ 0
+    own_most = ap (λ (x : Bool). length {A = ℕ} (elim x as (λ (y : Bool). List ℕ) [ true ↦ [] | false ↦ M.subs n ])) rn ∙ ap length (subs_new s w k t (some p) b v fits n refl)
 
-    no_reads : length (readLinks g.kind M.dep (deps M n)) ≡ 0
-    unfolding readLinks
-    no_reads = ap (λ (x : List ℕ). length (readLinks g.kind M.dep x)) (deps-new s w k t (some p) b v fits n refl)
+    no_reads : length (read_links g.kind M.dep (deps M n)) ≡ 0
+    unfolding read_links
+    no_reads = ap (λ (x : List ℕ). length (read_links g.kind M.dep x)) (deps_new s w k t (some p) b v fits n refl)
 
-    spends-now : (c : Kind) → k ≡ c → spends g M n ≡ reserveOf c false (g.form n) (some p)
-    spends-now c e =
-        ap₂ (λ (x : Kind) (y : Bool). reserveOf x y (g.form n) (g.owner n)) (kind-new s w k t (some p) b v fits n refl ∙ e) (gone-new s w k t (some p) b v fits n refl)
-        ∙ ap (λ (z : Option ℕ). reserveOf c false (g.form n) z) (owner-new s w k t (some p) b v fits n refl)
+    spends_now : (c : Kind) → k ≡ c → spends g M n ≡ reserve_of c false (g.form n) (some p)
+    spends_now c e =
+        ap₂ (λ (x : Kind) (y : Bool). reserve_of x y (g.form n) (g.owner n)) (kind_new s w k t (some p) b v fits n refl ∙ e) (gone_new s w k t (some p) b v fits n refl)
+        ∙ ap (λ (z : Option ℕ). reserve_of c false (g.form n) z) (owner_new s w k t (some p) b v fits n refl)
 
     one_more : 1 ≤ spends g M n
     one_more = go k refl
@@ -137,125 +137,125 @@ module _ (s : St) (w : WellFormed s) (k : Kind) (t : Tree) (b : Named) (v : Valu
         go : (c : Kind) → k ≡ c → 1 ≤ spends g M n
         go signal e = clash (ap readable e) rk
         go computed e = clash (ap readable e) rk
-        go effect e = let x = spends-now effect e in omega arith
-        go scope e = let x = spends-now scope e in omega arith
+        go effect e = let x = spends_now effect e in omega arith
+        go scope e = let x = spends_now scope e in omega arith
 
     all_paid : (m : ℕ) → m < g.size → Paid g M m
     all_paid m h = either (eqb m n)
-        (λ e. let x = no_reads in let y = own-most in
+        (λ e. let x = no_reads in let y = own_most in
         let q : Paid g M n = record { enough = omega arith } in
         subst (Paid g M) (sym (eqb-true m n e)) q)
-        (λ e. rests-paid g st (also nobody n) M m i h (i.rests m h (off (eqb-false m n e))))
+        (λ e. rests_paid g st (also nobody n) M m i h (i.rests m h (off (eqb-false m n e))))
       where
         off : {m : ℕ} → (m ≡ n → ⊥) → also nobody n m → ⊥
         off f (inr q) = f q
 
     unspent : (M.stuck || spent M) ≡ s.stuck
-    unspent = let x = no_reads in let y = own-most in let z = one_more in ap (λ (q : Bool). s.stuck || q) (slot-left g st (also nobody n) M n i (omega arith) (omega arith) all_paid).1 ∙ or-false s.stuck
+    unspent = let x = no_reads in let y = own_most in let z = one_more in ap (λ (q : Bool). s.stuck || q) (slot_left g st (also nobody n) M n i (omega arith) (omega arith) all_paid).1 ∙ or_false s.stuck
 
     -- ---- the link
     inserted : (ls : List ℕ) → s.free ≡ ls → Made (some p) fits (insert M n p 0 ls)
-    unfolding insert readLinks
-    inserted [] e = let x = no_reads in let y = own-most in let z = one_more in absurd ((slot-left g st (also nobody n) M n i (omega arith) (omega arith) all_paid).0 e)
+    unfolding insert read_links
+    inserted [] e = let x = no_reads in let y = own_most in let z = one_more in absurd ((slot_left g st (also nobody n) M n i (omega arith) (omega arith) all_paid).0 e)
     inserted (l ∷ ls) e =
         let x = insert M n p 0 (l ∷ ls) in
         let hn : n < g.size = omega arith in
-        let j = insert-inside g (also nobody n) M n p 0 l ls i e goes-up hn low in
-        let dead : s.live l ≡ false = (i.lists.free-not-live l (subst (In l) (sym e) (inl refl))).0 in
+        let j = insert_inside g (also nobody n) M n p 0 l ls i e goes_up hn low in
+        let dead : s.live l ≡ false = (i.lists.free_not_live l (subst (In l) (sym e) (inl refl))).0 in
         let away : (c : ℕ) → s.live c ≡ true → c ≡ l → ⊥ = λ c lv q. clash lv (ap s.live q ∙ dead) in
-        let r = p-rests in
-        let ends = at-ends g M.queue M.dep x.dep M.sub x.sub p M
-        (λ c z. up-other s.dep l n c (away c (i.lists.deps-live c p (in_left c (M.done p) (M.rest p) z)).0))
-        (λ c z. up-other s.sub l p c (away c (i.lists.subs-live c p z).0)) r in
-        let reads : readLinks g.kind x.dep (M.done p ++ l ∷ []) ≡ readLinks g.kind x.dep (M.done p) =
-        reads-append g.kind x.dep (M.done p) (l ∷ []) ∙ ap (λ (z : List ℕ). readLinks g.kind x.dep (M.done p) ++ z) not-read ∙ append-nil (readLinks g.kind x.dep (M.done p)) in
+        let r = p_rests in
+        let ends = at_ends g M.queue M.dep x.dep M.sub x.sub p M
+        (λ c z. up_other s.dep l n c (away c (i.lists.deps_live c p (in_left c (M.done p) (M.rest p) z)).0))
+        (λ c z. up_other s.sub l p c (away c (i.lists.subs_live c p z).0)) r in
+        let reads : read_links g.kind x.dep (M.done p ++ l ∷ []) ≡ read_links g.kind x.dep (M.done p) =
+        reads_append g.kind x.dep (M.done p) (l ∷ []) ∙ ap (λ (z : List ℕ). read_links g.kind x.dep (M.done p) ++ z) not_read ∙ append-nil (read_links g.kind x.dep (M.done p)) in
         let rt : AtRest g M.queue x.dep x.sub p (M.fl p) (M.gone p) (M.done p ++ l ∷ []) (M.rest p) (M.subs p) = record {
           tail = ends.tail;
           owned = ends.owned;
           unowned = ends.unowned;
-          bare = λ a. clash a alive-p;
+          bare = λ a. clash a alive_p;
           few = subst (λ (z : List ℕ). length z ≤ length (names (g.form p))) (sym reads) ends.few;
-          of-signal = ends.of-signal;
-          of-computed = λ q. clash (ap readable q) rp;
-          of-effect = λ q a. subst (EffectFlags p (M.fl p) M.queue) (sym reads) (ends.of-effect q a);
-          of-scope = ends.of-scope;
-          of-gone = ends.of-gone;
+          of_signal = ends.of_signal;
+          of_computed = λ q. clash (ap readable q) rp;
+          of_effect = λ q a. subst (EffectFlags p (M.fl p) M.queue) (sym reads) (ends.of_effect q a);
+          of_scope = ends.of_scope;
+          of_gone = ends.of_gone;
           queued = ends.queued;
         } in
-        let rp-now : Rests g x p = at_same g M.queue x.dep x.sub p _ _ _ _ _ _ _ _ _ _ refl refl (up_same M.done p (M.done p ++ l ∷ [])) refl (up-other M.subs n (M.subs n ++ l ∷ []) p other) rt in
-        let subs-now : x.subs n ≡ l ∷ [] = up_same M.subs n (M.subs n ++ l ∷ []) ∙ ap (λ (z : List ℕ). z ++ l ∷ []) (subs-new s w k t (some p) b v fits n refl) in
-        let d = done-new s w k t (some p) b v fits in
-        let agree : (m : ℕ) → readLinks g.kind x.dep (deps M m) ≡ readLinks g.kind s.dep (deps M m) =
-        λ m. reads-agree g.kind s.dep x.dep (deps M m) (λ c z. up-other s.dep l n c (away c (i.lists.deps-live c m z).0)) in
-        let done-p : deps M p ≡ M.done p = ap (λ (z : List ℕ). M.done p ++ z) r.tail ∙ append-nil (M.done p) in
+        let rp_now : Rests g x p = at_same g M.queue x.dep x.sub p _ _ _ _ _ _ _ _ _ _ refl refl (up_same M.done p (M.done p ++ l ∷ [])) refl (up_other M.subs n (M.subs n ++ l ∷ []) p other) rt in
+        let subs_now : x.subs n ≡ l ∷ [] = up_same M.subs n (M.subs n ++ l ∷ []) ∙ ap (λ (z : List ℕ). z ++ l ∷ []) (subs_new s w k t (some p) b v fits n refl) in
+        let d = done_new s w k t (some p) b v fits in
+        let agree : (m : ℕ) → read_links g.kind x.dep (deps M m) ≡ read_links g.kind s.dep (deps M m) =
+        λ m. reads_agree g.kind s.dep x.dep (deps M m) (λ c z. up_other s.dep l n c (away c (i.lists.deps_live c m z).0)) in
+        let done_p : deps M p ≡ M.done p = ap (λ (z : List ℕ). M.done p ++ z) r.tail ∙ append-nil (M.done p) in
         let longer : deps x p ≡ M.done p ++ l ∷ [] = ap₂ (λ (y z : List ℕ). y ++ z) (up_same M.done p (M.done p ++ l ∷ [])) r.tail ∙ append-nil (M.done p ++ l ∷ []) in
-        let reads_now : (m : ℕ) → readLinks g.kind x.dep (deps x m) ≡ readLinks g.kind s.dep (deps M m) =
+        let reads_now : (m : ℕ) → read_links g.kind x.dep (deps x m) ≡ read_links g.kind s.dep (deps M m) =
         λ m. either (eqb m p)
-        (λ q. subst (λ (z : ℕ). readLinks g.kind x.dep (deps x z) ≡ readLinks g.kind s.dep (deps M z)) (sym (eqb-true m p q))
-        (ap (readLinks g.kind x.dep) longer ∙ reads ∙ ap (readLinks g.kind x.dep) (sym done-p) ∙ agree p))
-        (λ q. ap (λ (z : List ℕ). readLinks g.kind x.dep (z ++ M.rest m)) (up-other M.done p (M.done p ++ l ∷ []) m (eqb-false m p q)) ∙ agree m) in
+        (λ q. subst (λ (z : ℕ). read_links g.kind x.dep (deps x z) ≡ read_links g.kind s.dep (deps M z)) (sym (eqb-true m p q))
+        (ap (read_links g.kind x.dep) longer ∙ reads ∙ ap (read_links g.kind x.dep) (sym done_p) ∙ agree p))
+        (λ q. ap (λ (z : List ℕ). read_links g.kind x.dep (z ++ M.rest m)) (up_other M.done p (M.done p ++ l ∷ []) m (eqb-false m p q)) ∙ agree m) in
         record {
-          inside = let-out g (also nobody n) x p (widen g (also (also (also nobody n) n) p) (also (also nobody n) p) x in-x j) rp-now;
+          inside = let_out g (also nobody n) x p (widen g (also (also (also nobody n) n) p) (also (also nobody n) p) x in_x j) rp_now;
           stuck = unspent;
           owns = record {
-            owned = λ q z. (l, subs-now, up_same s.sub l p ∙ same_some (sym (owner-new s w k t (some p) b v fits n refl) ∙ z));
-            unowned = λ z. none-some (sym z ∙ owner-new s w k t (some p) b v fits n refl);
-            alive = gone-new s w k t (some p) b v fits n refl;
+            owned = λ q z. (l, subs_now, up_same s.sub l p ∙ same_some (sym (owner_new s w k t (some p) b v fits n refl) ∙ z));
+            unowned = λ z. none_some (sym z ∙ owner_new s w k t (some p) b v fits n refl);
+            alive = gone_new s w k t (some p) b v fits n refl;
           };
-          done = up-other M.done p (M.done p ++ l ∷ []) n (λ q. other (sym q)) ∙ d.0;
+          done = up_other M.done p (M.done p ++ l ∷ []) n (λ q. other (sym q)) ∙ d.0;
           rest = d.1;
-          flag = fl-new s w k t (some p) b v fits n refl;
+          flag = fl_new s w k t (some p) b v fits n refl;
           queue = refl;
           depth = refl;
-          reads = λ m h. stay_then s M x m (new-reads s w k t (some p) b v fits m h)
-              (record { links = reads_now m; ends = λ c z. let far = away c (i.lists.deps-live c m (reads-sub g.kind s.dep c (deps M m) z)).0 in (up-other s.dep l n c far, up-other s.ver l 0 c far) });
+          reads = λ m h. stay_then s M x m (new_reads s w k t (some p) b v fits m h)
+              (record { links = reads_now m; ends = λ c z. let far = away c (i.lists.deps_live c m (reads_sub g.kind s.dep c (deps M m) z)).0 in (up_other s.dep l n c far, up_other s.ver l 0 c far) });
         }
       where
-        in-x : (m : ℕ) → also (also (also nobody n) n) p m → also (also nobody n) p m
-        in-x m (inl (inl z)) = inl z
-        in-x m (inl (inr q)) = inl (inr q)
-        in-x m (inr q) = inr q
+        in_x : (m : ℕ) → also (also (also nobody n) n) p m → also (also nobody n) p m
+        in_x m (inl (inl z)) = inl z
+        in_x m (inl (inr q)) = inl (inr q)
+        in_x m (inr q) = inr q
 
-        not-read : readLinks g.kind (up s.dep l n) (l ∷ []) ≡ []
-        not-read = rw (up_same s.dep l n, readLinks, rn)
+        not_read : read_links g.kind (up s.dep l n) (l ∷ []) ≡ []
+        not_read = rw (up_same s.dep l n, read_links, rn)
 
-    link-made : Made (some p) fits (link M n p 0)
+    link_made : Made (some p) fits (link M n p 0)
     unfolding link
-    link-made =
-        branch (Made (some p) fits) (goesTo M (last_of (M.done p)) n) (λ e. absurd (not_last (M.done p) (λ l j. j) e))
-        (λ e. branch (Made (some p) fits) (goesTo M (head_of (M.rest p)) n) (λ q. absurd (not-head (M.rest p) p-rests.tail q))
-        (λ q. branch (Made (some p) fits) (isFrom M (last_of (M.subs n)) p 0) (λ z. absurd (not-from (M.subs n) (subs-new s w k t (some p) b v fits n refl) z)) (λ z. inserted s.free refl)))
+    link_made =
+        branch (Made (some p) fits) (goes_to M (last_of (M.done p)) n) (λ e. absurd (not_last (M.done p) (λ l j. j) e))
+        (λ e. branch (Made (some p) fits) (goes_to M (head_of (M.rest p)) n) (λ q. absurd (not_head (M.rest p) p_rests.tail q))
+        (λ q. branch (Made (some p) fits) (is_from M (last_of (M.subs n)) p 0) (λ z. absurd (not_from (M.subs n) (subs_new s w k t (some p) b v fits n refl) z)) (λ z. inserted s.free refl)))
       where
-        last-in : (xs : List ℕ) (l : ℕ) → last_of xs ≡ some l → In l xs
-        last-in [] l e = none-some e
-        last-in (x ∷ xs) l e = go (last_of xs) refl e (λ m. last-in xs m)
+        last_in : (xs : List ℕ) (l : ℕ) → last_of xs ≡ some l → In l xs
+        last_in [] l e = none_some e
+        last_in (x ∷ xs) l e = go (last_of xs) refl e (λ m. last_in xs m)
           where
             go : (o : Option ℕ) → last_of xs ≡ o → ◌≡◌ {A = Option ℕ} (elim o [ none ↦ some x | some y ↦ some y ]) (some l) → ((m : ℕ) → last_of xs ≡ some m → In m xs) → In l (x ∷ xs)
             go none q z rec = inl (sym (same_some z))
             go (some y) q z rec = inr (rec l (q ∙ z))
 
-        not_last : (xs : List ℕ) → ((l : ℕ) → In l xs → In l (M.done p)) → goesTo M (last_of xs) n ≡ true → ⊥
+        not_last : (xs : List ℕ) → ((l : ℕ) → In l xs → In l (M.done p)) → goes_to M (last_of xs) n ≡ true → ⊥
         not_last xs sub e = go (last_of xs) refl e
           where
-            go : (o : Option ℕ) → last_of xs ≡ o → goesTo M o n ≡ true → ⊥
+            go : (o : Option ℕ) → last_of xs ≡ o → goes_to M o n ≡ true → ⊥
             go none q z = false≢true z
             go (some l) q z =
-                let lv = i.lists.deps-live l p (in_left l (M.done p) (M.rest p) (sub l (last-in xs l q))) in
+                let lv = i.lists.deps_live l p (in_left l (M.done p) (M.rest p) (sub l (last_in xs l q))) in
                 let a = (w.lists.inside l lv.0).0 in
                 let c = eqb-true (s.dep l) n z in
                 omega arith
 
-        not-head : (xs : List ℕ) → xs ≡ [] → goesTo M (head_of xs) n ≡ true → ⊥
-        not-head [] e z = false≢true z
-        not-head (x ∷ xs) e z = let y = ap length e in omega arith
+        not_head : (xs : List ℕ) → xs ≡ [] → goes_to M (head_of xs) n ≡ true → ⊥
+        not_head [] e z = false≢true z
+        not_head (x ∷ xs) e z = let y = ap length e in omega arith
 
-        not-from : (xs : List ℕ) → xs ≡ [] → isFrom M (last_of xs) p 0 ≡ true → ⊥
-        not-from [] e z = false≢true z
-        not-from (x ∷ xs) e z = let y = ap length e in omega arith
+        not_from : (xs : List ℕ) → xs ≡ [] → is_from M (last_of xs) p 0 ≡ true → ⊥
+        not_from [] e z = false≢true z
+        not_from (x ∷ xs) e z = let y = ap length e in omega arith
 
   pub made : (o : Option ℕ) (fits : Fits s k t o) → ((p : ℕ) → o ≡ some p → readable k ≡ false) → Made o fits (owned (node s k t o b v) s.size o)
-  made none fits h = unowned-made fits
-  made (some p) fits h = link-made p fits (h p refl)
+  made none fits h = unowned_made fits
+  made (some p) fits h = link_made p fits (h p refl)
 
 -- ---- commands 1 to 4
 -- well formed, and not stuck unless it was
@@ -264,71 +264,71 @@ pub record Well (s t : St) : Type 0 where
   pub stuck : t.stuck ≡ s.stuck
 
 module _ (s : St) (w : WellFormed s) where
-  at-depth : (x : St) → x.queue ≡ s.queue → x.depth ≡ s.depth → (x.depth ≡ 0 → x.queue ≡ []) × (x.depth ≤ mostDepth)
-  at-depth x q d = (λ e. q ∙ w.queued.at-depth-0 (sym d ∙ e), subst (λ (z : ℕ). z ≤ mostDepth) (sym d) w.queued.depth_low)
+  at_depth : (x : St) → x.queue ≡ s.queue → x.depth ≡ s.depth → (x.depth ≡ 0 → x.queue ≡ []) × (x.depth ≤ most_depth)
+  at_depth x q d = (λ e. q ∙ w.queued.at_depth_0 (sym d ∙ e), subst (λ (z : ℕ). z ≤ most_depth) (sym d) w.queued.depth_low)
 
   pub ended : (k : Kind) (t : Tree) (o : Option ℕ) (b : Named) (v : Value) (fits : Fits s k t o) (x : St) → Inside (G s w k t o b v fits) nobody x → x.stuck ≡ s.stuck → x.queue ≡ s.queue → x.depth ≡ s.depth → Well s x
-  ended k t o b v fits x i e q d = let z = at-depth x q d in record { formed = at_rest (G s w k t o b v fits) x (new-static s w k t o b v fits) i z.0 z.1; stuck = e }
+  ended k t o b v fits x i e q d = let z = at_depth x q d in record { formed = at_rest (G s w k t o b v fits) x (new_static s w k t o b v fits) i z.0 z.1; stuck = e }
 
-  pub signal-well : (v : Value) → Fits s signal (constant (pos 0)) none → Well s (newSignal s v)
-  unfolding newSignal readLinks
-  signal-well v fits =
-      let m = made s w signal (constant (pos 0)) f1 v refl none fits (λ p e. none-some e) in
+  pub signal_well : (v : Value) → Fits s signal (constant (pos 0)) none → Well s (new_signal s v)
+  unfolding new_signal read_links
+  signal_well v fits =
+      let m = made s w signal (constant (pos 0)) f1 v refl none fits (λ p e. none_some e) in
       let x = node s signal (constant (pos 0)) none f1 v in
       let g = G s w signal (constant (pos 0)) none f1 v fits in
-      let st = new-static s w signal (constant (pos 0)) none f1 v fits in
-      let kn = kind-new s w signal (constant (pos 0)) none f1 v fits s.size refl in
+      let st = new_static s w signal (constant (pos 0)) none f1 v fits in
+      let kn = kind_new s w signal (constant (pos 0)) none f1 v fits s.size refl in
       ended signal (constant (pos 0)) none f1 v fits x
-      (let-out g nobody x s.size m.inside
-      (rests-clean g st x.queue x.dep x.sub s.size _ _ _ _ _ (omega arith) (ap readable kn) m.flag m.owns.alive m.rest
-      (subst (λ (z : List ℕ). length (readLinks g.kind x.dep z) ≤ length (names (g.form s.size))) (sym m.done) (omega arith))))
+      (let_out g nobody x s.size m.inside
+      (rests_clean g st x.queue x.dep x.sub s.size _ _ _ _ _ (omega arith) (ap readable kn) m.flag m.owns.alive m.rest
+      (subst (λ (z : List ℕ). length (read_links g.kind x.dep z) ≤ length (names (g.form s.size))) (sym m.done) (omega arith))))
       m.stuck m.queue m.depth
 
-  pub computed-well : (t : Tree) → Fits s computed t none → Well s (newComputed s t)
-  unfolding newComputed readLinks
-  computed-well t fits =
-      let m = made s w computed t f0 nothing refl none fits (λ p e. none-some e) in
+  pub computed_well : (t : Tree) → Fits s computed t none → Well s (new_computed s t)
+  unfolding new_computed read_links
+  computed_well t fits =
+      let m = made s w computed t f0 nothing refl none fits (λ p e. none_some e) in
       let x = node s computed t none f0 nothing in
       let g = G s w computed t none f0 nothing fits in
-      let st = new-static s w computed t none f0 nothing fits in
-      let kn = kind-new s w computed t none f0 nothing fits s.size refl in
+      let st = new_static s w computed t none f0 nothing fits in
+      let kn = kind_new s w computed t none f0 nothing fits s.size refl in
       let rn = ap readable kn in
-      let bare = m.owns.unowned (st.owner-kind s.size (omega arith) rn) in
+      let bare = m.owns.unowned (st.owner_kind s.size (omega arith) rn) in
       let r : Rests g x s.size = record {
         tail = m.rest;
         owned = λ o a q. m.owns.owned o q;
         unowned = λ a q. m.owns.unowned q;
         bare = λ a. clash a m.owns.alive;
-        few = subst (λ (z : List ℕ). length (readLinks g.kind x.dep z) ≤ length (names (g.form s.size))) (sym m.done) (omega arith);
-        of-signal = λ q. clash (ap aComputed kn) (ap aComputed q);
-        of-computed = λ q. never m.flag m.done bare;
-        of-effect = λ q a. clash rn (ap readable q);
-        of-scope = λ q. clash rn (ap readable q);
-        of-gone = λ q a. clash rn (ap readable q);
+        few = subst (λ (z : List ℕ). length (read_links g.kind x.dep z) ≤ length (names (g.form s.size))) (sym m.done) (omega arith);
+        of_signal = λ q. clash (ap a_computed kn) (ap a_computed q);
+        of_computed = λ q. never m.flag m.done bare;
+        of_effect = λ q a. clash rn (ap readable q);
+        of_scope = λ q. clash rn (ap readable q);
+        of_gone = λ q a. clash rn (ap readable q);
         queued = λ j a. m.flag;
       } in
-      ended computed t none f0 nothing fits x (let-out g nobody x s.size m.inside r) m.stuck m.queue m.depth
+      ended computed t none f0 nothing fits x (let_out g nobody x s.size m.inside r) m.stuck m.queue m.depth
 
-  pub scope-well : (o : Option ℕ) → Fits s scope (constant (pos 0)) o → Well s (newScope s o)
-  unfolding newScope readLinks
-  scope-well o fits =
+  pub scope_well : (o : Option ℕ) → Fits s scope (constant (pos 0)) o → Well s (new_scope s o)
+  unfolding new_scope read_links
+  scope_well o fits =
       let c = constant (pos 0) in
       let m = made s w scope c f0 nothing refl o fits (λ p e. refl) in
       let x = owned (node s scope c o f0 nothing) s.size o in
       let g = G s w scope c o f0 nothing fits in
-      let kn = kind-new s w scope c o f0 nothing fits s.size refl in
+      let kn = kind_new s w scope c o f0 nothing fits s.size refl in
       let rn = ap readable kn in
       let r : Rests g x s.size = record {
         tail = m.rest;
         owned = λ p a q. m.owns.owned p q;
         unowned = λ a q. m.owns.unowned q;
         bare = λ a. clash a m.owns.alive;
-        few = subst (λ (z : List ℕ). length (readLinks g.kind x.dep z) ≤ length (names (g.form s.size))) (sym m.done) (omega arith);
-        of-signal = λ q. clash (ap readable q) rn;
-        of-computed = λ q. clash (ap readable q) rn;
-        of-effect = λ q a. clash (ap isEffect q) (ap isEffect kn);
-        of-scope = λ q. m.flag;
-        of-gone = λ q a. inl m.flag;
+        few = subst (λ (z : List ℕ). length (read_links g.kind x.dep z) ≤ length (names (g.form s.size))) (sym m.done) (omega arith);
+        of_signal = λ q. clash (ap readable q) rn;
+        of_computed = λ q. clash (ap readable q) rn;
+        of_effect = λ q a. clash (ap is_effect q) (ap is_effect kn);
+        of_scope = λ q. m.flag;
+        of_gone = λ q a. inl m.flag;
         queued = λ j a. m.flag;
       } in
-      ended scope c o f0 nothing fits x (let-out g nobody x s.size m.inside r) m.stuck m.queue m.depth
+      ended scope c o f0 nothing fits x (let_out g nobody x s.size m.inside r) m.stuck m.queue m.depth

@@ -6,20 +6,20 @@ use mathlib.Core.Option.{Option, none, some}
 use Prim.Native.Nat.{ℕ}
 use lib.IntN.{ℤ, pos, negsuc}
 use Rattle.values.specs.Values.{value}
-use Rattle.values.specs.Values.{sum, difference, minimum, maximum, less, clamp, same, sameNumber, is_zero}
-use Rattle.trees.specs.Cells.{cell_of, codes, read_of, bareOf}
+use Rattle.values.specs.Values.{sum, difference, minimum, maximum, less, clamp, same, same_number, is_zero}
+use Rattle.trees.specs.Cells.{cell_of, codes, read_of, bare_of}
 use Rattle.trees.specs.Trees.{apply, written, size, names}
 use Rattle.meaning.specs.State.{St, up, below, empty}
-use Rattle.meaning.specs.Links.{provided, remove, each, renew, spent, insert, link, cut, lastLink, disposeW, unwatchedW, unlinkN}
+use Rattle.meaning.specs.Links.{provided, remove, each, renew, spent, insert, link, cut, last_link, dispose_w, unwatched_w, unlink_n}
 use Rattle.meaning.specs.Marks.{chain, calm, effects, notify, mark, prop, soil, wakes}
-use Rattle.meaning.specs.Reads.{evalBy, settleW, firstW, updComputed, updSignal, updW, sameSlots, steady, checkOn, checkW, pendingW, freshW, fresh}
-use Rattle.meaning.specs.Engine.{logged, rerun, run, flushOn, store, tallest, newSignal, newComputed, newScope, newEffect}
-use Rattle.meaning.specs.Words.{word, no_word, wholeCells, codes as commands, commandOf, after, grown, parse, tree_of}
+use Rattle.meaning.specs.Reads.{eval_by, settle_w, first_w, upd_computed, upd_signal, upd_w, same_slots, steady, check_on, check_w, pending_w, fresh_w, fresh}
+use Rattle.meaning.specs.Engine.{logged, rerun, run, flush_on, store, tallest, new_signal, new_computed, new_scope, new_effect}
+use Rattle.meaning.specs.Words.{word, no_word, whole_cells, codes as commands, command_of, after, grown, parse, tree_of}
 use Rattle.meaning.specs.Reserve.{total, reserve}
-use Rattle.meaning.specs.Refusals.{liveEffects, asksOf, is_a, unknown, wrongNode, goneNode, allReadable, badFormula, tooHigh, noRoom, wrongDepth, fewRows, table as refusals, first, refusal}
-use Rattle.meaning.specs.Commands.{perform, performAny, answer, command}
-use Rattle.meaning.specs.Cases.{Told, shown, answers, afterAll}
-use Rattle.meaning.specs.Played.{Left, left, Script, script, depEnds, subEnds, lines, Played}
+use Rattle.meaning.specs.Refusals.{live_effects, asks_of, is_a, unknown, wrong_node, gone_node, all_readable, bad_formula, too_high, no_room, wrong_depth, few_rows, table as refusals, first, refusal}
+use Rattle.meaning.specs.Commands.{perform, perform_any, answer, command}
+use Rattle.meaning.specs.Cases.{Told, shown, answers, after_all}
+use Rattle.meaning.specs.Played.{Left, left, Script, script, dep_ends, sub_ends, lines, Played}
 
 -- ---- answers and tables in one play: each command is worked out once
 unfoldable plays : St → ℕ → List (List ℤ) → List Told × Left
@@ -29,23 +29,23 @@ plays s rows (c ∷ cs) =
     let r = plays a.st rows cs in
     ((a.code, a.val, shown a.rows) ∷ r.0, r.1)
 
-plays-both : (s : St) (rows : ℕ) (cs : List (List ℤ)) → plays s rows cs ≡ (answers s rows cs, left (afterAll s rows cs))
-unfolding plays answers afterAll
-plays-both s rows [] = refl
-plays-both s rows (c ∷ cs) =
+plays_both : (s : St) (rows : ℕ) (cs : List (List ℤ)) → plays s rows cs ≡ (answers s rows cs, left (after_all s rows cs))
+unfolding plays answers after_all
+plays_both s rows [] = refl
+plays_both s rows (c ∷ cs) =
     let a = command true s rows c in
-    ap (λ (r : List Told × Left). ((a.code, a.val, shown a.rows) ∷ r.0, r.1)) (plays-both a.st rows cs)
+    ap (λ (r : List Told × Left). ((a.code, a.val, shown a.rows) ∷ r.0, r.1)) (plays_both a.st rows cs)
 
 unfoldable Agree : List Script → Type 0
 Agree [] = Unit {0}
 Agree (p ∷ ps) = (plays (empty p.room) p.rows p.words ≡ (p.told, p.leaves)) × Agree ps
 
-agree-played : (ps : List Script) → Agree ps → Played ps
+agree_played : (ps : List Script) → Agree ps → Played ps
 unfolding Agree Played
-agree-played [] h = tt
-agree-played (p ∷ ps) h =
-    let e = sym (plays-both (empty p.room) p.rows p.words) ∙ h.0 in
-    (ap (λ (r : List Told × Left). r.0) e, ap (λ (r : List Told × Left). r.1) e, agree-played ps h.1)
+agree_played [] h = tt
+agree_played (p ∷ ps) h =
+    let e = sym (plays_both (empty p.room) p.rows p.words) ∙ h.0 in
+    (ap (λ (r : List Told × Left). r.0) e, ap (λ (r : List Told × Left). r.1) e, agree_played ps h.1)
 
 abbrev script0 : Script
 script0 = script 256 2 2048 256
@@ -2448,9 +2448,9 @@ script39 = script 10 20 25 1
 abbrev scripts : List Script
 scripts = script0 ∷ script1 ∷ script2 ∷ script3 ∷ script4 ∷ script5 ∷ script6 ∷ script7 ∷ script8 ∷ script9 ∷ script10 ∷ script11 ∷ script12 ∷ script13 ∷ script14 ∷ script15 ∷ script16 ∷ script17 ∷ script18 ∷ script19 ∷ script20 ∷ script21 ∷ script22 ∷ script23 ∷ script24 ∷ script25 ∷ script26 ∷ script27 ∷ script28 ∷ script29 ∷ script30 ∷ script31 ∷ script32 ∷ script33 ∷ script34 ∷ script35 ∷ script36 ∷ script37 ∷ script38 ∷ script39 ∷ []
 
-all-agree : Agree scripts
-unfolding sum difference minimum maximum less clamp same sameNumber is_zero cell_of codes read_of bareOf apply written size names up below empty provided remove each renew spent insert link cut lastLink disposeW unwatchedW unlinkN chain calm effects notify mark prop soil wakes evalBy settleW firstW updComputed updSignal updW sameSlots steady checkOn checkW pendingW freshW fresh logged rerun run flushOn store tallest newSignal newComputed newScope newEffect no_word word wholeCells commands commandOf after grown parse tree_of total reserve liveEffects asksOf is_a unknown wrongNode goneNode allReadable badFormula tooHigh noRoom wrongDepth fewRows refusals first refusal perform performAny answer command shown plays depEnds subEnds lines Agree
-all-agree = (refl, (refl, (refl, (refl, (refl, (refl, (refl, (refl, (refl, (refl, (refl, (refl, (refl, (refl, (refl, (refl, (refl, (refl, (refl, (refl, (refl, (refl, (refl, (refl, (refl, (refl, (refl, (refl, (refl, (refl, (refl, (refl, (refl, (refl, (refl, (refl, (refl, (refl, (refl, (refl, tt))))))))))))))))))))))))))))))))))))))))
+all_agree : Agree scripts
+unfolding sum difference minimum maximum less clamp same same_number is_zero cell_of codes read_of bare_of apply written size names up below empty provided remove each renew spent insert link cut last_link dispose_w unwatched_w unlink_n chain calm effects notify mark prop soil wakes eval_by settle_w first_w upd_computed upd_signal upd_w same_slots steady check_on check_w pending_w fresh_w fresh logged rerun run flush_on store tallest new_signal new_computed new_scope new_effect no_word word whole_cells commands command_of after grown parse tree_of total reserve live_effects asks_of is_a unknown wrong_node gone_node all_readable bad_formula too_high no_room wrong_depth few_rows refusals first refusal perform perform_any answer command shown plays dep_ends sub_ends lines Agree
+all_agree = (refl, (refl, (refl, (refl, (refl, (refl, (refl, (refl, (refl, (refl, (refl, (refl, (refl, (refl, (refl, (refl, (refl, (refl, (refl, (refl, (refl, (refl, (refl, (refl, (refl, (refl, (refl, (refl, (refl, (refl, (refl, (refl, (refl, (refl, (refl, (refl, (refl, (refl, (refl, (refl, tt))))))))))))))))))))))))))))))))))))))))
 
-pub all-played : Played scripts
-all-played = agree-played scripts all-agree
+pub all_played : Played scripts
+all_played = agree_played scripts all_agree

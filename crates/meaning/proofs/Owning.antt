@@ -7,7 +7,7 @@ use native.Mathlib.Omega.{arith}
 use lib.Dec.{eqb}
 use borrow.Author.Tests.{eqb-true, eqb-false}
 use Rattle.meaning.specs.Owners.{Below, itself, through, Owned}
-use Rattle.meaning.proofs.Laws.{either, none-some, same_some}
+use Rattle.meaning.proofs.Laws.{either, none_some, same_some}
 
 -- what is below something below d is below d
 pub below_then : (owner : ℕ → Option ℕ) (d m k : ℕ) → Below owner d m → Below owner m k → Below owner d k
@@ -18,11 +18,11 @@ pub owned_below : (owner : ℕ → Option ℕ) (e n : ℕ) → Owned owner e n �
 owned_below owner e n p = below_then owner e p.0 n (through e (itself refl) p.1) p.2
 
 module _ (owner : ℕ → Option ℕ) (size : ℕ) (lower : (n o : ℕ) → n < size → owner n ≡ some o → o < n) where
-  pub below-high : (x y : ℕ) → y < size → Below owner x y → x ≤ y
-  below-high x y h (itself e) = omega arith
-  below-high x y h (through o b q) =
+  pub below_high : (x y : ℕ) → y < size → Below owner x y → x ≤ y
+  below_high x y h (itself e) = omega arith
+  below_high x y h (through o b q) =
       let l = lower y o h q in
-      let r = below-high x o (omega arith) b in
+      let r = below_high x o (omega arith) b in
       omega arith
 
   -- n is owned by e, through others or not, or is not below e but for e itself
@@ -45,7 +45,7 @@ module _ (owner : ℕ → Option ℕ) (size : ℕ) (lower : (n o : ℕ) → n < 
         where
           at : Below owner e n → ⊥
           at (itself p) = z.1 p
-          at (through m r p) = none-some (sym q ∙ p)
+          at (through m r p) = none_some (sym q ∙ p)
 
       next : (o : ℕ) → owner n ≡ some o → (o ≡ e → ⊥) → Told e o → Told e n
       next o q ne (inl p) = inl (p.0, p.1, through o p.2 q)
@@ -57,12 +57,12 @@ module _ (owner : ℕ → Option ℕ) (size : ℕ) (lower : (n o : ℕ) → n < 
           (λ z. inl (n, subst (λ (x : ℕ). owner n ≡ some x) (eqb-true o e z) q, itself refl))
           (λ z. next o q (eqb-false o e z) (rec o (lower n o h q)))
 
-  pub owned-known : (e n : ℕ) → n < size → Owned owner e n ⊎ (Below owner e n × (n ≡ e → ⊥) → ⊥)
-  owned-known e n h = tell (suc n) e n (omega arith) h
+  pub owned_known : (e n : ℕ) → n < size → Owned owner e n ⊎ (Below owner e n × (n ≡ e → ⊥) → ⊥)
+  owned_known e n h = tell (suc n) e n (omega arith) h
 
   -- the same of "below"
-  pub below-known : (x n : ℕ) → n < size → Below owner x n ⊎ (Below owner x n → ⊥)
-  below-known x n h = either (eqb n x) (λ q. inl (itself (eqb-true n x q))) (λ q. go (eqb-false n x q) (owned-known x n h))
+  pub below_known : (x n : ℕ) → n < size → Below owner x n ⊎ (Below owner x n → ⊥)
+  below_known x n h = either (eqb n x) (λ q. inl (itself (eqb-true n x q))) (λ q. go (eqb-false n x q) (owned_known x n h))
     where
       go : (n ≡ x → ⊥) → Told x n → Below owner x n ⊎ (Below owner x n → ⊥)
       go ne (inl p) = inl (owned_below owner x n p)

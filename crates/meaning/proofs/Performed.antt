@@ -7,29 +7,29 @@ use Prim.Native.Nat.{ℕ, zero, suc}
 use native.Mathlib.Omega.{arith}
 use lib.IntN.{ℤ}
 use Rattle.meaning.specs.State.{St}
-use Rattle.meaning.specs.Setters.{withLog}
-use Rattle.meaning.specs.Words.{Command, commandOf}
+use Rattle.meaning.specs.Setters.{with_log}
+use Rattle.meaning.specs.Words.{Command, command_of}
 use Rattle.meaning.specs.Refusals.{sight_of, unknown, table, refusal}
-use Rattle.meaning.specs.Commands.{perform, performAny, Answer, accepted, answer, command}
+use Rattle.meaning.specs.Commands.{perform, perform_any, Answer, accepted, answer, command}
 use Rattle.meaning.proofs.Laws.{false≢true}
-use Rattle.meaning.proofs.Refused.{NoneHolds, accepted-exactly}
+use Rattle.meaning.proofs.Refused.{NoneHolds, accepted_exactly}
 
 module _ (s : St) (rows : ℕ) (ws : List ℤ) where
-  pub performed : (c : Command) → commandOf ws ≡ some c → (command true s rows ws).code ≡ 0
-      → (command true s rows ws ≡ accepted (perform (withLog s []) c)) × NoneHolds (table true (sight_of s rows) (some c))
-  unfolding command answer performAny
-  performed c q a = go (refusal true (sight_of s rows) ws) (accepted-exactly true s rows ws).0 a
+  pub performed : (c : Command) → command_of ws ≡ some c → (command true s rows ws).code ≡ 0
+      → (command true s rows ws ≡ accepted (perform (with_log s []) c)) × NoneHolds (table true (sight_of s rows) (some c))
+  unfolding command answer perform_any
+  performed c q a = go (refusal true (sight_of s rows) ws) (accepted_exactly true s rows ws).0 a
     where
-      go : (r : ℕ) → ((answer r s ws).code ≡ 0 → NoneHolds (table true (sight_of s rows) (commandOf ws))) → (answer r s ws).code ≡ 0
-          → (answer r s ws ≡ accepted (perform (withLog s []) c)) × NoneHolds (table true (sight_of s rows) (some c))
-      go zero h e = (ap (λ (z : Option Command). accepted (performAny (withLog s []) z)) q, subst (λ (z : Option Command). NoneHolds (table true (sight_of s rows) z)) q (h refl))
+      go : (r : ℕ) → ((answer r s ws).code ≡ 0 → NoneHolds (table true (sight_of s rows) (command_of ws))) → (answer r s ws).code ≡ 0
+          → (answer r s ws ≡ accepted (perform (with_log s []) c)) × NoneHolds (table true (sight_of s rows) (some c))
+      go zero h e = (ap (λ (z : Option Command). accepted (perform_any (with_log s []) z)) q, subst (λ (z : Option Command). NoneHolds (table true (sight_of s rows) z)) q (h refl))
       go (suc r) h e = absurd (omega arith)
 
-  pub known : (command true s rows ws).code ≡ 0 → (c : Command) × (commandOf ws ≡ some c)
+  pub known : (command true s rows ws).code ≡ 0 → (c : Command) × (command_of ws ≡ some c)
   unfolding table unknown
-  known a = go (commandOf ws) refl ((accepted-exactly true s rows ws).0 a)
+  known a = go (command_of ws) refl ((accepted_exactly true s rows ws).0 a)
     where
-      go : (o : Option Command) → commandOf ws ≡ o → NoneHolds (table true (sight_of s rows) o) → (c : Command) × (commandOf ws ≡ some c)
+      go : (o : Option Command) → command_of ws ≡ o → NoneHolds (table true (sight_of s rows) o) → (c : Command) × (command_of ws ≡ some c)
       go none e h = false≢true (sym (h 1))
       go (some c) e h = (c, e)
 

@@ -8,12 +8,12 @@ use lib.Dec.{eqb, leb}
 use lib.ListN.{length}
 use borrow.Author.Tests.{eqb-true, eqb-false}
 use Rattle.flags.specs.declared.Named.{Named}
-use Rattle.meaning.specs.State.{St, unclean, recursing, withPending, withWatching, up}
+use Rattle.meaning.specs.State.{St, unclean, recursing, with_pending, with_watching, up}
 use Rattle.meaning.specs.Links.{several}
-use Rattle.meaning.specs.Marks.{Marks, marksOf, halt, chain, calm, notify, mark, stackFull, prop, turns, propagate}
+use Rattle.meaning.specs.Marks.{Marks, marks_of, halt, chain, calm, notify, mark, stack_full, prop, turns, propagate}
 use Rattle.meaning.specs.WellFormed.{In}
 use Rattle.meaning.specs.Reach.{Reached, near, far}
-use Rattle.meaning.proofs.Laws.{clash, either, or-true, or-one, or-none, or_left, or_right, branch, up-other, up_by, in_left, in_right, in-cases}
+use Rattle.meaning.proofs.Laws.{clash, either, or_true, or_one, or_none, or_left, or_right, branch, up_other, up_by, in_left, in_right, in_cases}
 
 -- ---- one turn of the walk, by its five ways
 ways : (P : Marks → Type 0) (a b c d : Bool) (v w x y z : Marks) → (a ≡ true → P v) → (a ≡ false → b ≡ true → P w) → (a ≡ false → b ≡ false → c ≡ true → d ≡ true → P x) → (a ≡ false → b ≡ false → c ≡ true → d ≡ false → P y)
@@ -36,53 +36,53 @@ module _ (P : Marks → Type 0) (s : St) (k : ℕ) (m : Marks) (l : ℕ) (w : Li
   told = mark s m (s.sub l)
 
   pub turn : (recursing there ≡ true → P (halt m true)) → (recursing there ≡ false → unclean there ≡ true → P (prop s k m w st))
-      → (recursing there ≡ false → unclean there ≡ false → there.mutable ≡ true → several below ≡ true → P (prop s k (halt told (stackFull s st)) below (w ∷ st)))
+      → (recursing there ≡ false → unclean there ≡ false → there.mutable ≡ true → several below ≡ true → P (prop s k (halt told (stack_full s st)) below (w ∷ st)))
       → (recursing there ≡ false → unclean there ≡ false → there.mutable ≡ true → several below ≡ false → P (prop s k told (below ++ w) st))
       → (recursing there ≡ false → unclean there ≡ false → there.mutable ≡ false → P (prop s k told w st)) → P (prop s (suc k) m (l ∷ w) st)
   unfolding prop
-  turn = ways P (recursing there) (unclean there) there.mutable (several below) (halt m true) (prop s k m w st) (prop s k (halt told (stackFull s st)) below (w ∷ st)) (prop s k told (below ++ w) st) (prop s k told w st)
+  turn = ways P (recursing there) (unclean there) there.mutable (several below) (halt m true) (prop s k m w st) (prop s k (halt told (stack_full s st)) below (w ∷ st)) (prop s k told (below ++ w) st) (prop s k told w st)
 
 -- ---- marking changes WATCHING, and PENDING of the node marked
 abbrev tone : Named → Named
-tone f = withWatching f false
+tone f = with_watching f false
 
-calm-tone : (c : List ℕ) (f : ℕ → Named) (n : ℕ) → tone (calm c f n) ≡ tone (f n)
+calm_tone : (c : List ℕ) (f : ℕ → Named) (n : ℕ) → tone (calm c f n) ≡ tone (f n)
 unfolding calm
-calm-tone [] f n = refl
-calm-tone (e ∷ c) f n =
-    calm-tone c (up f e (withWatching (f e) false)) n
-    ∙ up_by f e (withWatching (f e) false) (λ (x : Named). tone x ≡ tone (f n)) n (λ q. ap (λ (k : ℕ). tone (f k)) (sym q)) (λ q. refl)
+calm_tone [] f n = refl
+calm_tone (e ∷ c) f n =
+    calm_tone c (up f e (with_watching (f e) false)) n
+    ∙ up_by f e (with_watching (f e) false) (λ (x : Named). tone x ≡ tone (f n)) n (λ q. ap (λ (k : ℕ). tone (f k)) (sym q)) (λ q. refl)
 
-mark-tone : (s : St) (m : Marks) (u n : ℕ) → tone ((mark s m u).fl n) ≡ tone (up m.fl u (withPending (m.fl u) true) n)
+mark_tone : (s : St) (m : Marks) (u n : ℕ) → tone ((mark s m u).fl n) ≡ tone (up m.fl u (with_pending (m.fl u) true) n)
 unfolding mark notify
-mark-tone s m u n =
-    let f = up m.fl u (withPending (m.fl u) true) in
-    branch (λ (x : Marks). tone (x.fl n) ≡ tone (f n)) (m.fl u).watching (λ e. calm-tone (chain s.room.nodes s.owner f u) f n) (λ e. refl)
+mark_tone s m u n =
+    let f = up m.fl u (with_pending (m.fl u) true) in
+    branch (λ (x : Marks). tone (x.fl n) ≡ tone (f n)) (m.fl u).watching (λ e. calm_tone (chain s.room.nodes s.owner f u) f n) (λ e. refl)
 
 module _ (s : St) (m : Marks) (u : ℕ) where
   abbrev marked : ℕ → Named
-  marked = up m.fl u (withPending (m.fl u) true)
+  marked = up m.fl u (with_pending (m.fl u) true)
 
-  pub mark-dirty : (n : ℕ) → ((mark s m u).fl n).dirty ≡ (m.fl n).dirty
-  mark-dirty n =
-      ap (λ (f : Named). f.dirty) (mark-tone s m u n)
-      ∙ up_by m.fl u (withPending (m.fl u) true) (λ (x : Named). x.dirty ≡ (m.fl n).dirty) n (λ q. ap (λ (k : ℕ). (m.fl k).dirty) (sym q)) (λ q. refl)
+  pub mark_dirty : (n : ℕ) → ((mark s m u).fl n).dirty ≡ (m.fl n).dirty
+  mark_dirty n =
+      ap (λ (f : Named). f.dirty) (mark_tone s m u n)
+      ∙ up_by m.fl u (with_pending (m.fl u) true) (λ (x : Named). x.dirty ≡ (m.fl n).dirty) n (λ q. ap (λ (k : ℕ). (m.fl k).dirty) (sym q)) (λ q. refl)
 
-  mark-mutable : (n : ℕ) → ((mark s m u).fl n).mutable ≡ (m.fl n).mutable
-  mark-mutable n =
-      ap (λ (f : Named). f.mutable) (mark-tone s m u n)
-      ∙ up_by m.fl u (withPending (m.fl u) true) (λ (x : Named). x.mutable ≡ (m.fl n).mutable) n (λ q. ap (λ (k : ℕ). (m.fl k).mutable) (sym q)) (λ q. refl)
+  mark_mutable : (n : ℕ) → ((mark s m u).fl n).mutable ≡ (m.fl n).mutable
+  mark_mutable n =
+      ap (λ (f : Named). f.mutable) (mark_tone s m u n)
+      ∙ up_by m.fl u (with_pending (m.fl u) true) (λ (x : Named). x.mutable ≡ (m.fl n).mutable) n (λ q. ap (λ (k : ℕ). (m.fl k).mutable) (sym q)) (λ q. refl)
 
-  pub mark-here : (n : ℕ) → n ≡ u → ((mark s m u).fl n).pending ≡ true
-  mark-here n q =
-      ap (λ (f : Named). f.pending) (mark-tone s m u n)
-      ∙ up_by m.fl u (withPending (m.fl u) true) (λ (x : Named). x.pending ≡ true) n (λ p. refl) (λ p. absurd (p q))
+  pub mark_here : (n : ℕ) → n ≡ u → ((mark s m u).fl n).pending ≡ true
+  mark_here n q =
+      ap (λ (f : Named). f.pending) (mark_tone s m u n)
+      ∙ up_by m.fl u (with_pending (m.fl u) true) (λ (x : Named). x.pending ≡ true) n (λ p. refl) (λ p. absurd (p q))
 
-  pub mark-there : (n : ℕ) → (n ≡ u → ⊥) → ((mark s m u).fl n).pending ≡ (m.fl n).pending
-  mark-there n h = ap (λ (f : Named). f.pending) (mark-tone s m u n ∙ ap tone (up-other m.fl u (withPending (m.fl u) true) n h))
+  pub mark_there : (n : ℕ) → (n ≡ u → ⊥) → ((mark s m u).fl n).pending ≡ (m.fl n).pending
+  mark_there n h = ap (λ (f : Named). f.pending) (mark_tone s m u n ∙ ap tone (up_other m.fl u (with_pending (m.fl u) true) n h))
 
-  mark-more : (n : ℕ) → (m.fl n).pending ≡ true → ((mark s m u).fl n).pending ≡ true
-  mark-more n e = either (eqb n u) (λ q. mark-here n (eqb-true n u q)) (λ q. mark-there n (eqb-false n u q) ∙ e)
+  mark_more : (n : ℕ) → (m.fl n).pending ≡ true → ((mark s m u).fl n).pending ≡ true
+  mark_more n e = either (eqb n u) (λ q. mark_here n (eqb-true n u q)) (λ q. mark_there n (eqb-false n u q) ∙ e)
 
 -- ---- the links to visit next, then the lists put aside
 abbrev pub all : List ℕ → List (List ℕ) → List ℕ
@@ -112,8 +112,8 @@ record Going (s : St) (d : ℕ) (f : ℕ → Named) (w : List ℕ) : Type 0 wher
 
 module _ (s : St) (d : ℕ) where
   -- a node that looks clean was clean
-  was-clean : (f : ℕ → Named) (w : List ℕ) (u : ℕ) → Going s d f w → unclean (f u) ≡ false → unclean (s.fl u) ≡ false
-  was-clean f w u g e = or-none (s.fl u).dirty (s.fl u).pending (sym (g.dirt u) ∙ or_left (f u).dirty (f u).pending e) (go (s.fl u).pending refl)
+  was_clean : (f : ℕ → Named) (w : List ℕ) (u : ℕ) → Going s d f w → unclean (f u) ≡ false → unclean (s.fl u) ≡ false
+  was_clean f w u g e = or_none (s.fl u).dirty (s.fl u).pending (sym (g.dirt u) ∙ or_left (f u).dirty (f u).pending e) (go (s.fl u).pending refl)
     where
       go : (b : Bool) → (s.fl u).pending ≡ b → b ≡ false
       go true q = clash (g.more u q) (or_right (f u).dirty (f u).pending e)
@@ -146,35 +146,35 @@ module _ (s : St) (d : ℕ) where
       → ((k : ℕ) → (s.fl (s.sub l)).mutable ≡ true → In k (s.subs (s.sub l)) → In k new)
       → Going s d (mark s m (s.sub l)).fl (new ++ w)
   step m l w new g e has all = record {
-    dirt = λ n. mark-dirty s m u n ∙ g.dirt n;
-    mut = λ n. mark-mutable s m u n ∙ g.mut n;
-    more = λ n h. mark-more s m u n (g.more n h);
+    dirt = λ n. mark_dirty s m u n ∙ g.dirt n;
+    mut = λ n. mark_mutable s m u n ∙ g.mut n;
+    more = λ n h. mark_more s m u n (g.more n h);
     only = λ n h. either (eqb n u) (λ q. inr (subst (Reached s d) (sym (eqb-true n u q)) reached))
-        (λ q. g.only n (sym (mark-there s m u n (eqb-false n u q)) ∙ h));
-    from = λ k i. in-cases k new w i (λ j. inr (u, reached, (has k j).0, (has k j).1)) (λ j. g.from k (inr j));
+        (λ q. g.only n (sym (mark_there s m u n (eqb-false n u q)) ∙ h));
+    from = λ k i. in_cases k new w i (λ j. inr (u, reached, (has k j).0, (has k j).1)) (λ j. g.from k (inr j));
     by = λ k i. go k (g.by k i);
     past = λ k n a b c i. either (eqb n u)
         (λ q. inl (in_left k new w (subst (λ (x : ℕ). (s.fl x).mutable ≡ true → In k (s.subs x) → In k new) (sym (eqb-true n u q)) (all k) c i)))
-        (λ q. go k (g.past k n (sym (mark-there s m u n (eqb-false n u q)) ∙ a) b c i));
+        (λ q. go k (g.past k n (sym (mark_there s m u n (eqb-false n u q)) ∙ a) b c i));
   }
     where
       u : ℕ
       u = s.sub l
 
       reached : Reached s d (s.sub l)
-      reached = reach (s.sub l) l (g.from l (inl refl)) refl (was-clean m.fl (l ∷ w) (s.sub l) g e)
+      reached = reach (s.sub l) l (g.from l (inl refl)) refl (was_clean m.fl (l ∷ w) (s.sub l) g e)
 
-      dirt-on : (n : ℕ) → (m.fl n).dirty || (m.fl n).pending ≡ true → ((mark s m (s.sub l)).fl n).dirty || ((mark s m (s.sub l)).fl n).pending ≡ true
-      dirt-on n h = at (m.fl n).dirty refl
+      dirt_on : (n : ℕ) → (m.fl n).dirty || (m.fl n).pending ≡ true → ((mark s m (s.sub l)).fl n).dirty || ((mark s m (s.sub l)).fl n).pending ≡ true
+      dirt_on n h = at (m.fl n).dirty refl
         where
           at : (b : Bool) → (m.fl n).dirty ≡ b → ((mark s m (s.sub l)).fl n).dirty || ((mark s m (s.sub l)).fl n).pending ≡ true
-          at true q = rw (mark-dirty s m (s.sub l) n ∙ q)
-          at false q = rw (mark-more s m (s.sub l) n (or-one (m.fl n).dirty (m.fl n).pending h q)) (or-true ((mark s m (s.sub l)).fl n).dirty)
+          at true q = rw (mark_dirty s m (s.sub l) n ∙ q)
+          at false q = rw (mark_more s m (s.sub l) n (or_one (m.fl n).dirty (m.fl n).pending h q)) (or_true ((mark s m (s.sub l)).fl n).dirty)
 
       go : (k : ℕ) → Done s m.fl (l ∷ w) k → Done s (mark s m (s.sub l)).fl (new ++ w) k
-      go k (inl (inl q)) = inr (rw (mark-here s m (s.sub l) (s.sub k) (ap s.sub q)) (or-true ((mark s m (s.sub l)).fl (s.sub k)).dirty))
+      go k (inl (inl q)) = inr (rw (mark_here s m (s.sub l) (s.sub k) (ap s.sub q)) (or_true ((mark s m (s.sub l)).fl (s.sub k)).dirty))
       go k (inl (inr i)) = inl (in_right k new w i)
-      go k (inr c) = inr (dirt-on (s.sub k) c)
+      go k (inr c) = inr (dirt_on (s.sub k) c)
 
   -- ---- the walk
   abbrev Ends : Marks → Type 0
@@ -182,12 +182,12 @@ module _ (s : St) (d : ℕ) where
 
   walk : (k : ℕ) (m : Marks) (w : List ℕ) (st : List (List ℕ)) → Going s d m.fl (all w st) → Ends (prop s k m w st)
   unfolding prop
-  walk zero m w st g = λ z. clash (or-true m.stuck) z
+  walk zero m w st g = λ z. clash (or_true m.stuck) z
   walk (suc k) m [] [] g = λ z. g
   walk (suc k) m [] (w ∷ st) g = walk k m w st g
   walk (suc k) m (l ∷ w) st g =
-      turn Ends s k m l w st (λ e z. clash (or-true m.stuck) z) (λ e a. walk k m w st (skip m.fl l (all w st) h a))
-      (λ e a b c. walk k (halt (mark s m (s.sub l)) (stackFull s st)) (s.subs (s.sub l)) (w ∷ st) (next a b))
+      turn Ends s k m l w st (λ e z. clash (or_true m.stuck) z) (λ e a. walk k m w st (skip m.fl l (all w st) h a))
+      (λ e a b c. walk k (halt (mark s m (s.sub l)) (stack_full s st)) (s.subs (s.sub l)) (w ∷ st) (next a b))
       (λ e a b c. walk k (mark s m (s.sub l)) (s.subs (s.sub l) ++ w) st (subst (Going s d (mark s m (s.sub l)).fl) (sym (all_append (s.subs (s.sub l)) w st)) (next a b)))
       (λ e a b. walk k (mark s m (s.sub l)) w st (step m l (all w st) [] h a (λ x i. absurd i) (λ x c i. clash c (sym (h.mut (s.sub l)) ∙ b))))
     where
@@ -208,32 +208,32 @@ module _ (s : St) (d : ℕ) where
     past = λ l m a b c i. clash a b;
   }
 
-  clean-before : (u : ℕ) → Reached s d u → unclean (s.fl u) ≡ false
-  clean-before u (near l i q e) = e
-  clean-before u (far l m r c i q e) = e
+  clean_before : (u : ℕ) → Reached s d u → unclean (s.fl u) ≡ false
+  clean_before u (near l i q e) = e
+  clean_before u (far l m r c i q e) = e
 
   -- nothing is left to visit: what is reached is marked
-  reached-marked : (f : ℕ → Named) → Going s d f [] → (u : ℕ) → Reached s d u → (f u).pending ≡ true
-  reached-marked f g u (near l i q e) = seen (g.by l i)
+  reached_marked : (f : ℕ → Named) → Going s d f [] → (u : ℕ) → Reached s d u → (f u).pending ≡ true
+  reached_marked f g u (near l i q e) = seen (g.by l i)
     where
       seen : Done s f [] l → (f u).pending ≡ true
-      seen (inr c) = or-one (f u).dirty (f u).pending (subst (λ (x : ℕ). unclean (f x) ≡ true) q c) (g.dirt u ∙ or_left (s.fl u).dirty (s.fl u).pending e)
-  reached-marked f g u (far l m r c i q e) =
-      seen (g.past l m (reached-marked f g m r) (or_right (s.fl m).dirty (s.fl m).pending (clean-before m r)) c i)
+      seen (inr c) = or_one (f u).dirty (f u).pending (subst (λ (x : ℕ). unclean (f x) ≡ true) q c) (g.dirt u ∙ or_left (s.fl u).dirty (s.fl u).pending e)
+  reached_marked f g u (far l m r c i q e) =
+      seen (g.past l m (reached_marked f g m r) (or_right (s.fl m).dirty (s.fl m).pending (clean_before m r)) c i)
     where
       seen : Done s f [] l → (f u).pending ≡ true
-      seen (inr c) = or-one (f u).dirty (f u).pending (subst (λ (x : ℕ). unclean (f x) ≡ true) q c) (g.dirt u ∙ or_left (s.fl u).dirty (s.fl u).pending e)
+      seen (inr c) = or_one (f u).dirty (f u).pending (subst (λ (x : ℕ). unclean (f x) ≡ true) q c) (g.dirt u ∙ or_left (s.fl u).dirty (s.fl u).pending e)
 
   module _ (goes : (propagate s d).stuck ≡ false) where
     ended : Going s d (propagate s d).fl []
-    ended = walk (turns s) (marksOf s) (s.subs d) [] begin goes
+    ended = walk (turns s) (marks_of s) (s.subs d) [] begin goes
 
-    pub marks-reached : (u : ℕ) → (((propagate s d).fl u).pending ≡ true) ↔ (((s.fl u).pending ≡ true) ⊎ Reached s d u)
-    marks-reached u = (ended.only u, back)
+    pub marks_reached : (u : ℕ) → (((propagate s d).fl u).pending ≡ true) ↔ (((s.fl u).pending ≡ true) ⊎ Reached s d u)
+    marks_reached u = (ended.only u, back)
       where
         back : ((s.fl u).pending ≡ true) ⊎ Reached s d u → ((propagate s d).fl u).pending ≡ true
         back (inl e) = ended.more u e
-        back (inr r) = reached-marked (propagate s d).fl ended u r
+        back (inr r) = reached_marked (propagate s d).fl ended u r
 
-    pub marks-no-other : (u : ℕ) → (((propagate s d).fl u).dirty ≡ (s.fl u).dirty) × (((propagate s d).fl u).mutable ≡ (s.fl u).mutable)
-    marks-no-other u = (ended.dirt u, ended.mut u)
+    pub marks_no_other : (u : ℕ) → (((propagate s d).fl u).dirty ≡ (s.fl u).dirty) × (((propagate s d).fl u).mutable ≡ (s.fl u).mutable)
+    marks_no_other u = (ended.dirt u, ended.mut u)

@@ -9,10 +9,10 @@ use native.Mathlib.Omega.{arith}
 use lib.Dec.{leb}
 use lib.IntN.{ℤ}
 use lib.ListN.{length, get_or}
-use borrow.Author.Tests.{eq-eqb, not-true}
+use borrow.Author.Tests.{eq-eqb, not_true_lem}
 use Rattle.meaning.specs.State.{St, nothing}
-use Rattle.meaning.specs.Words.{Command, batchStart, batchEnd, commandOf}
-use Rattle.meaning.specs.Refusals.{sight_of, asksOf, mostDepth, unknown, wrongNode, goneNode, badFormula, tooHigh, noRoom, wrongDepth, table, first, refusal}
+use Rattle.meaning.specs.Words.{Command, batch_start, batch_end, command_of}
+use Rattle.meaning.specs.Refusals.{sight_of, asks_of, most_depth, unknown, wrong_node, gone_node, bad_formula, too_high, no_room, wrong_depth, table, first, refusal}
 use Rattle.meaning.specs.WellFormed.{WellFormed}
 use Rattle.meaning.specs.Commands.{runs, answer, command}
 use Rattle.meaning.proofs.Laws.{false≢true, clash}
@@ -32,22 +32,22 @@ first_below n (true ∷ bs) = omega arith
 first_below n (false ∷ bs) = omega (arith, first_below (suc n) bs)
 
 -- ---- one law over any list of rows
-first-given : (bs : List Bool) (n i : ℕ) → FirstHolds bs i → first (suc n) bs ≡ suc (n + i)
+first_given : (bs : List Bool) (n i : ℕ) → FirstHolds bs i → first (suc n) bs ≡ suc (n + i)
 unfolding first
-first-given [] n i h = false≢true h.0
-first-given (true ∷ bs) n zero h = omega arith
-first-given (true ∷ bs) n (suc i) h = false≢true (sym (h.1 0 (omega arith)))
-first-given (false ∷ bs) n zero h = false≢true h.0
-first-given (false ∷ bs) n (suc i) h =
-    let e : first (suc (suc n)) bs ≡ suc (suc n + i) = first-given bs (suc n) i (h.0, λ j l. h.1 (suc j) (omega arith)) in
+first_given [] n i h = false≢true h.0
+first_given (true ∷ bs) n zero h = omega arith
+first_given (true ∷ bs) n (suc i) h = false≢true (sym (h.1 0 (omega arith)))
+first_given (false ∷ bs) n zero h = false≢true h.0
+first_given (false ∷ bs) n (suc i) h =
+    let e : first (suc (suc n)) bs ≡ suc (suc n + i) = first_given bs (suc n) i (h.0, λ j l. h.1 (suc j) (omega arith)) in
     let f : suc (suc n + i) ≡ suc (n + suc i) = omega arith in
     e ∙ f
 
-first-none : (bs : List Bool) (n : ℕ) → NoneHolds bs → first (suc n) bs ≡ 0
+first_none : (bs : List Bool) (n : ℕ) → NoneHolds bs → first (suc n) bs ≡ 0
 unfolding first
-first-none [] n h = refl
-first-none (true ∷ bs) n h = false≢true (sym (h 0))
-first-none (false ∷ bs) n h = first-none bs (suc n) (λ j. h (suc j))
+first_none [] n h = refl
+first_none (true ∷ bs) n h = false≢true (sym (h 0))
+first_none (false ∷ bs) n h = first_none bs (suc n) (λ j. h (suc j))
 
 none_more : (bs : List Bool) → NoneHolds bs → (j : ℕ) → get_or (false ∷ bs) j false ≡ false
 none_more bs h zero = refl
@@ -70,27 +70,27 @@ found (false ∷ bs) = go (found bs)
     go (inl h) = inl (none_more bs h)
     go (inr p) = inr (suc p.0, first_more bs p.0 p.1)
 
-pub first-exact : (bs : List Bool) (i : ℕ) → (first 1 bs ≡ suc i) ↔ FirstHolds bs i
-first-exact bs i = (λ e. go e (found bs), λ h. let g = first-given bs 0 i h in omega arith)
+pub first_exact : (bs : List Bool) (i : ℕ) → (first 1 bs ≡ suc i) ↔ FirstHolds bs i
+first_exact bs i = (λ e. go e (found bs), λ h. let g = first_given bs 0 i h in omega arith)
   where
     go : first 1 bs ≡ suc i → NoneHolds bs ⊎ ((k : ℕ) × FirstHolds bs k) → FirstHolds bs i
-    go e (inl h) = let z = first-none bs 0 h in absurd (omega arith)
+    go e (inl h) = let z = first_none bs 0 h in absurd (omega arith)
     go e (inr p) =
-        let g = first-given bs 0 p.0 p.1 in
+        let g = first_given bs 0 p.0 p.1 in
         let q : p.0 ≡ i = omega arith in
         subst (FirstHolds bs) q p.1
 
-pub first-zero : (bs : List Bool) → (first 1 bs ≡ 0) ↔ NoneHolds bs
-first-zero bs = (λ e. go e (found bs), first-none bs 0)
+pub first_zero : (bs : List Bool) → (first 1 bs ≡ 0) ↔ NoneHolds bs
+first_zero bs = (λ e. go e (found bs), first_none bs 0)
   where
     go : first 1 bs ≡ 0 → NoneHolds bs ⊎ ((k : ℕ) × FirstHolds bs k) → NoneHolds bs
     go e (inl h) = h
-    go e (inr p) = let g = first-given bs 0 p.0 p.1 in absurd (omega arith)
+    go e (inr p) = let g = first_given bs 0 p.0 p.1 in absurd (omega arith)
 
 -- ---- the nine rows
 module _ (well : Bool) (s : St) (rows : ℕ) (ws : List ℤ) where
   abbrev Rows : List Bool
-  Rows = table well (sight_of s rows) (commandOf ws)
+  Rows = table well (sight_of s rows) (command_of ws)
 
   code_is : (command well s rows ws).code ≡ refusal well (sight_of s rows) ws
   unfolding command answer
@@ -101,21 +101,21 @@ module _ (well : Bool) (s : St) (rows : ℕ) (ws : List ℤ) where
       go (suc r) = refl
 
   -- refusal i + 1 is given exactly when row i holds and none before it does
-  pub given-exactly : (i : ℕ) → ((command well s rows ws).code ≡ suc i) ↔ FirstHolds Rows i
+  pub given_exactly : (i : ℕ) → ((command well s rows ws).code ≡ suc i) ↔ FirstHolds Rows i
   unfolding refusal
-  given-exactly i = (λ e. (first-exact Rows i).0 (sym code_is ∙ e), λ h. code_is ∙ (first-exact Rows i).1 h)
+  given_exactly i = (λ e. (first_exact Rows i).0 (sym code_is ∙ e), λ h. code_is ∙ (first_exact Rows i).1 h)
 
   -- a command is accepted exactly when no row holds
-  pub accepted-exactly : ((command well s rows ws).code ≡ 0) ↔ NoneHolds Rows
+  pub accepted_exactly : ((command well s rows ws).code ≡ 0) ↔ NoneHolds Rows
   unfolding refusal
-  accepted-exactly = (λ e. (first-zero Rows).0 (sym code_is ∙ e), λ h. code_is ∙ (first-zero Rows).1 h)
+  accepted_exactly = (λ e. (first_zero Rows).0 (sym code_is ∙ e), λ h. code_is ∙ (first_zero Rows).1 h)
 
   -- 1 is given exactly when the tables are not well formed, by whatever tells so
-  pub not-well-formed : (well ≡ true) ↔ WellFormed s → ((command well s rows ws).code ≡ 1) ↔ (WellFormed s → ⊥)
+  pub not_well_formed : (well ≡ true) ↔ WellFormed s → ((command well s rows ws).code ≡ 1) ↔ (WellFormed s → ⊥)
   unfolding table
-  not-well-formed tells = (
-    λ e w. clash (tells.1 w) (not-true well ((given-exactly 0).0 e).0),
-    λ h. (given-exactly 0).1 (go h well refl, λ j l. absurd (omega arith)),
+  not_well_formed tells = (
+    λ e w. clash (tells.1 w) (not_true_lem well ((given_exactly 0).0 e).0),
+    λ h. (given_exactly 0).1 (go h well refl, λ j l. absurd (omega arith)),
   )
     where
       go : (WellFormed s → ⊥) → (b : Bool) → well ≡ b → not b ≡ true
@@ -124,12 +124,12 @@ module _ (well : Bool) (s : St) (rows : ℕ) (ws : List ℤ) where
 
   -- of a start or an end only the depth is asked
   abbrev batch : Bool → Command
-  batch true = batchStart
-  batch false = batchEnd
+  batch true = batch_start
+  batch false = batch_end
 
-  by-depth : well ≡ true → (b : Bool) → commandOf ws ≡ some (batch b) → wrongDepth (sight_of s rows) (batch b) ≡ true → (command well s rows ws).code ≡ 8
-  unfolding table unknown wrongNode goneNode badFormula tooHigh noRoom wrongDepth asksOf
-  by-depth a b q e = (given-exactly 7).1 (subst (λ (o : Option Command). FirstHolds (table well (sight_of s rows) o) 7) (sym q) (e, λ j l. before b j l))
+  by_depth : well ≡ true → (b : Bool) → command_of ws ≡ some (batch b) → wrong_depth (sight_of s rows) (batch b) ≡ true → (command well s rows ws).code ≡ 8
+  unfolding table unknown wrong_node gone_node bad_formula too_high no_room wrong_depth asks_of
+  by_depth a b q e = (given_exactly 7).1 (subst (λ (o : Option Command). FirstHolds (table well (sight_of s rows) o) 7) (sym q) (e, λ j l. before b j l))
     where
       before : (b : Bool) (j : ℕ) → j < 7 → get_or (table well (sight_of s rows) (some (batch b))) j false ≡ false
       before b zero l = ap not a
@@ -148,20 +148,20 @@ module _ (well : Bool) (s : St) (rows : ℕ) (ws : List ℤ) where
       before b (suc (suc (suc (suc (suc (suc (suc j))))))) l = absurd (omega arith)
 
   -- an end at depth 0 is refused by 8: over lists it would be stuck (`no_end`)
-  pub end_refused : well ≡ true → commandOf ws ≡ some batchEnd → s.depth ≡ 0 → (command well s rows ws).code ≡ 8
-  unfolding wrongDepth asksOf
-  end_refused a q e = by-depth a false q (eq-eqb s.depth 0 e)
+  pub end_refused : well ≡ true → command_of ws ≡ some batch_end → s.depth ≡ 0 → (command well s rows ws).code ≡ 8
+  unfolding wrong_depth asks_of
+  end_refused a q e = by_depth a false q (eq-eqb s.depth 0 e)
 
   -- and a start at depth 64
-  pub start-refused : well ≡ true → commandOf ws ≡ some batchStart → s.depth ≡ mostDepth → (command well s rows ws).code ≡ 8
-  unfolding wrongDepth asksOf
-  start-refused a q e = by-depth a true q (ap (leb mostDepth) e)
+  pub start_refused : well ≡ true → command_of ws ≡ some batch_start → s.depth ≡ most_depth → (command well s rows ws).code ≡ 8
+  unfolding wrong_depth asks_of
+  start_refused a q e = by_depth a true q (ap (leb most_depth) e)
 
   -- refused: value 0, runs 0, everything unchanged
-  pub refused-unchanged : ((command well s rows ws).code ≡ 0 → ⊥)
+  pub refused_unchanged : ((command well s rows ws).code ≡ 0 → ⊥)
       → ((command well s rows ws).st ≡ s) × ((command well s rows ws).val ≡ nothing) × (runs (command well s rows ws) ≡ 0)
   unfolding command answer
-  refused-unchanged = go (refusal well (sight_of s rows) ws)
+  refused_unchanged = go (refusal well (sight_of s rows) ws)
     where
       go : (r : ℕ) → ((answer r s ws).code ≡ 0 → ⊥) → ((answer r s ws).st ≡ s) × ((answer r s ws).val ≡ nothing) × (runs (answer r s ws) ≡ 0)
       go zero h = absurd (h refl)

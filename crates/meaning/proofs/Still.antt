@@ -7,9 +7,9 @@ use Prim.Native.Nat.{ℕ}
 use Rattle.values.specs.declared.Value.{Value}
 use Rattle.trees.specs.Trees.{Tree}
 use Rattle.meaning.specs.State.{St, Kind, Room, Row}
-use Rattle.meaning.specs.Links.{head_of, last_of, goesTo, isFrom, renew, insert, link, cut}
+use Rattle.meaning.specs.Links.{head_of, last_of, goes_to, is_from, renew, insert, link, cut}
 use Rattle.meaning.proofs.Laws.{branch, up_by}
-use Rattle.meaning.proofs.Rings.{link-ways, Drops, Renews}
+use Rattle.meaning.proofs.Rings.{link_ways, Drops, Renews}
 
 -- what only the making of a node touches
 pub record Given : Type 0 where
@@ -49,46 +49,46 @@ plain s t p = record { same = p.0; gone = λ n e. ap (λ (g : ℕ → Bool). g n
 still : (s : St) → Still s s
 still s = plain s s (refl, refl)
 
-cut-still : (s : St) (l : ℕ) → Plain s (cut s l)
+cut_still : (s : St) (l : ℕ) → Plain s (cut s l)
 unfolding cut
-cut-still s l = (refl, refl)
+cut_still s l = (refl, refl)
 
-renew-still : (s : St) (u v : ℕ) (ls : List ℕ) → Plain s (renew s u v ls)
+renew_still : (s : St) (u v : ℕ) (ls : List ℕ) → Plain s (renew s u v ls)
 unfolding renew
-renew-still s u v [] = (refl, refl)
-renew-still s u v (l ∷ ls) = (refl, refl)
+renew_still s u v [] = (refl, refl)
+renew_still s u v (l ∷ ls) = (refl, refl)
 
-insert-still : (s : St) (d u v : ℕ) (ls : List ℕ) → Plain s (insert s d u v ls)
+insert_still : (s : St) (d u v : ℕ) (ls : List ℕ) → Plain s (insert s d u v ls)
 unfolding insert
-insert-still s d u v [] = (refl, refl)
-insert-still s d u v (l ∷ ls) = (refl, refl)
+insert_still s d u v [] = (refl, refl)
+insert_still s d u v (l ∷ ls) = (refl, refl)
 
-link-plain : (s : St) (d u v : ℕ) → Plain s (link s d u v)
-link-plain s d u v = link-ways (Plain s) s d u v (λ e. (refl, refl)) (λ f. renew-still s u v (s.rest u)) (λ g. (refl, refl)) (insert-still s d u v s.free)
+link_plain : (s : St) (d u v : ℕ) → Plain s (link s d u v)
+link_plain s d u v = link_ways (Plain s) s d u v (λ e. (refl, refl)) (λ f. renew_still s u v (s.rest u)) (λ g. (refl, refl)) (insert_still s d u v s.free)
 
-pub link-still : (s : St) (d u v : ℕ) → Still s (link s d u v)
-link-still s d u v = plain s _ (link-plain s d u v)
+pub link_still : (s : St) (d u v : ℕ) → Still s (link s d u v)
+link_still s d u v = plain s _ (link_plain s d u v)
 
-pub link-marks : (s : St) (d u v : ℕ) → (link s d u v).gone ≡ s.gone
-link-marks s d u v = (link-plain s d u v).1
+pub link_marks : (s : St) (d u v : ℕ) → (link s d u v).gone ≡ s.gone
+link_marks s d u v = (link_plain s d u v).1
 
-pub drops-still : Drops Still
-drops-still = record {
+pub drops_still : Drops Still
+drops_still = record {
   same = still;
   then = λ s t x p q. record { same = q.same ∙ p.same; gone = λ n e. q.gone n (p.gone n e) };
   stops = λ s. plain s _ (refl, refl);
-  cuts = λ s l v. plain s _ (cut-still s l);
+  cuts = λ s l v. plain s _ (cut_still s l);
   bares = λ s x. record { same = refl; gone = λ n e. up_by s.gone x true (λ (b : Bool). b ≡ true) n (λ q. refl) (λ q. e) };
   stales = λ s d. plain s _ (refl, refl);
 }
 
-pub renews-still : Renews Still
-renews-still = record {
-  drops = drops-still;
+pub renews_still : Renews Still
+renews_still = record {
+  drops = drops_still;
   begins = λ s n f. plain s _ (refl, refl);
   flags = λ s n f. plain s _ (refl, refl);
   stores = λ s n v f. plain s _ (refl, refl);
   moves = λ s n. plain s _ (refl, refl);
-  links = link-still;
+  links = link_still;
   shallows = λ s n. plain s _ (refl, refl);
 }

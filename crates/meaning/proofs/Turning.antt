@@ -6,28 +6,28 @@ use mathlib.Core.List.{List, [], ◌∷◌, ◌++◌, append_assoc, append-nil}
 use Prim.Native.Nat.{ℕ}
 use Rattle.values.specs.Values.{value, sum}
 use Rattle.meaning.specs.State.{St, Row, f2}
-use Rattle.meaning.specs.Setters.{withQueue, setFl}
+use Rattle.meaning.specs.Setters.{with_queue, set_fl}
 use Rattle.meaning.specs.Reads.{check}
-use Rattle.meaning.specs.Marks.{withMarks}
-use Rattle.meaning.specs.Engine.{rerun, run, flushOn}
-use Rattle.meaning.specs.Words.{Command, nodeOf}
+use Rattle.meaning.specs.Marks.{with_marks}
+use Rattle.meaning.specs.Engine.{rerun, run, flush_on}
+use Rattle.meaning.specs.Words.{Command, node_of}
 use Rattle.meaning.specs.WellFormed.{In}
 use Rattle.meaning.specs.Moments.{Steps}
 use Rattle.meaning.specs.Outcome.{sets, adds}
 use Rattle.meaning.specs.Checks.{Checks}
 use Rattle.meaning.specs.Turns.{InTurn, ends, gone, clean, unchanged, changed, dirty, wrote, FlushBegins, as_before, walks, batch}
 use Rattle.meaning.proofs.Laws.{clash, false≢true, either, branch}
-use Rattle.meaning.proofs.Rings.{check-ring, rerun-ring}
-use Rattle.meaning.proofs.Still.{Given, Fixed, Still, renews-still}
-use Rattle.meaning.proofs.Steps.{no-flag-no-run}
-use Rattle.meaning.proofs.Flush.{run-queues-nothing, rerun-row, whos}
+use Rattle.meaning.proofs.Rings.{check_ring, rerun_ring}
+use Rattle.meaning.proofs.Still.{Given, Fixed, Still, renews_still}
+use Rattle.meaning.proofs.Steps.{no_flag_no_run}
+use Rattle.meaning.proofs.Flush.{run_queues_nothing, rerun_row, whos}
 use Rattle.meaning.proofs.Inside.{nobody, Static, Inside}
 use Rattle.meaning.proofs.Running.{run_inside}
 use Rattle.meaning.proofs.Ordered.{walked_one}
 use Rattle.meaning.proofs.Throughout.{unstuck}
 use Rattle.meaning.proofs.Stepped.{runs}
-use Rattle.meaning.proofs.Checking.{check-looks}
-use Rattle.meaning.proofs.Enough.{checks-one}
+use Rattle.meaning.proofs.Checking.{check_looks}
+use Rattle.meaning.proofs.Enough.{checks_one}
 
 -- the rest of the queue, from t on, with what the rows say
 abbrev Rest : St → List ℕ → List Row → Type 0
@@ -40,10 +40,10 @@ record Turn (s : St) (e : ℕ) (q : List ℕ) (t : St) : Type 0 where
 no_row : (s t : St) (e : ℕ) (q : List ℕ) → t.log ≡ s.log → (t.stuck ≡ false → (r : List ℕ) → InTurn t q r → InTurn s (e ∷ q) r) → Turn s e q t
 no_row s t e q p step = record { comes = λ z l f. (f.0, f.1 ∙ ap (λ (x : List Row). x ++ f.0) p, step z (whos f.0) f.2) }
 
-one-row : (s x : St) (e : ℕ) (q : List ℕ) → x.log ≡ s.log → ((rerun x e).stuck ≡ false → (r : List ℕ) → InTurn (rerun x e) q r → InTurn s (e ∷ q) (e ∷ r)) → Turn s e q (rerun x e)
+one_row : (s x : St) (e : ℕ) (q : List ℕ) → x.log ≡ s.log → ((rerun x e).stuck ≡ false → (r : List ℕ) → InTurn (rerun x e) q r → InTurn s (e ∷ q) (e ∷ r)) → Turn s e q (rerun x e)
 unfolding whos
-one-row s x e q p step =
-    let w = rerun-row x e in
+one_row s x e q p step =
+    let w = rerun_row x e in
     record {
       comes = λ z l f. (
         w.0 ∷ f.0,
@@ -53,72 +53,72 @@ one-row s x e q p step =
     }
 
 -- a live effect, by its flags; s' is s without it in the queue
-live-turn : (s : St) (e : ℕ) (q : List ℕ) → s.gone e ≡ false → Turn s e q (run (withQueue s q) e)
+live_turn : (s : St) (e : ℕ) (q : List ℕ) → s.gone e ≡ false → Turn s e q (run (with_queue s q) e)
 unfolding run
-live-turn s e q a =
-    let s' = withQueue s q in
+live_turn s e q a =
+    let s' = with_queue s q in
     let c = check s' e in
-    let p : c.st.log ≡ s.log = ap (λ (f : Fixed). f.log) (check-ring Still renews-still s' e).same in
-    let looks : c.st.stuck ≡ false → (b : Bool) → c.yes ≡ b → Checks s' e c.st b = λ z b y. subst (Checks s' e c.st) y (check-looks s.size s' e z) in
-    branch (Turn s e q) (s.fl e).dirty (λ d. one-row s s' e q refl (λ z r f. dirty e a d f))
+    let p : c.st.log ≡ s.log = ap (λ (f : Fixed). f.log) (check_ring Still renews_still s' e).same in
+    let looks : c.st.stuck ≡ false → (b : Bool) → c.yes ≡ b → Checks s' e c.st b = λ z b y. subst (Checks s' e c.st) y (check_looks s.size s' e z) in
+    branch (Turn s e q) (s.fl e).dirty (λ d. one_row s s' e q refl (λ z r f. dirty e a d f))
     (λ d. branch (Turn s e q) (s.fl e).pending
     (λ pd. branch (Turn s e q) c.yes
-    (λ y. one-row s c.st e q p (λ z r f. changed e a d pd (looks (unstuck c.st (rerun c.st e) (rerun-ring Steps runs c.st e) z) true y) f))
-    (λ y. no_row s (setFl c.st e f2) e q p (λ z r f. unchanged e a d pd (looks z false y) f)))
-    (λ pd. no_row s (setFl s' e f2) e q refl (λ z r f. clean e a d pd f)))
+    (λ y. one_row s c.st e q p (λ z r f. changed e a d pd (looks (unstuck c.st (rerun c.st e) (rerun_ring Steps runs c.st e) z) true y) f))
+    (λ y. no_row s (set_fl c.st e f2) e q p (λ z r f. unchanged e a d pd (looks z false y) f)))
+    (λ pd. no_row s (set_fl s' e f2) e q refl (λ z r f. clean e a d pd f)))
 
 -- a gone one has no flag
-gone-turn : (s : St) (e : ℕ) (q : List ℕ) → s.gone e ≡ true → run (withQueue s q) e ≡ setFl (withQueue s q) e f2 → Turn s e q (run (withQueue s q) e)
-gone-turn s e q a p = subst (Turn s e q) (sym p) (no_row s (setFl (withQueue s q) e f2) e q refl (λ z r f. gone e a f))
+gone_turn : (s : St) (e : ℕ) (q : List ℕ) → s.gone e ≡ true → run (with_queue s q) e ≡ set_fl (with_queue s q) e f2 → Turn s e q (run (with_queue s q) e)
+gone_turn s e q a p = subst (Turn s e q) (sym p) (no_row s (set_fl (with_queue s q) e f2) e q refl (λ z r f. gone e a f))
 
 module _ (g : Given) (st : Static g) where
   -- the flush of a queue from tables that are well formed inside, and not stuck
-  pub flush-in-turn : (q : List ℕ) (s : St) → Inside g nobody s → s.queue ≡ q → s.stuck ≡ false → Rest s q (flushOn s q).log
-  unfolding flushOn whos
-  flush-in-turn [] s i is z = ([], sym (append-nil s.log), ends)
-  flush-in-turn (e ∷ q) s i is z =
+  pub flush_in_turn : (q : List ℕ) (s : St) → Inside g nobody s → s.queue ≡ q → s.stuck ≡ false → Rest s q (flush_on s q).log
+  unfolding flush_on whos
+  flush_in_turn [] s i is z = ([], sym (append-nil s.log), ends)
+  flush_in_turn (e ∷ q) s i is z =
       let here : In e s.queue = subst (In e) (sym is) (inl refl) in
       let x = i.effects e here in
       let r = run_inside g st e x.0 x.1 s q i is in
       let free = r.stuck ∙ z in
-      let t : Turn s e q (run (withQueue s q) e) = either (s.gone e) (λ a. gone-turn s e q a (no-flag-no-run (withQueue s q) e ((i.rests e x.0 (λ y. y)).queued here a))) (λ a. live-turn s e q a) in
-      t.comes free (flushOn s (e ∷ q)).log (flush-in-turn q (run (withQueue s q) e) r.inside (run-queues-nothing (withQueue s q) e) free)
+      let t : Turn s e q (run (with_queue s q) e) = either (s.gone e) (λ a. gone_turn s e q a (no_flag_no_run (with_queue s q) e ((i.rests e x.0 (λ y. y)).queued here a))) (λ a. live_turn s e q a) in
+      t.comes free (flush_on s (e ∷ q)).log (flush_in_turn q (run (with_queue s q) e) r.inside (run_queues_nothing (with_queue s q) e) free)
 
 -- ---- the specification tells one order, no two
-pub in-turn-one : {s : St} {q r p : List ℕ} → InTurn s q r → InTurn s q p → r ≡ p
-in-turn-one ends ends = refl
-in-turn-one (gone e a f) (gone d b g) = in-turn-one f g
-in-turn-one (gone e a f) (clean d b u v g) = clash a b
-in-turn-one (gone e a f) (unchanged d b u v k g) = clash a b
-in-turn-one (gone e a f) (changed d b u v k g) = clash a b
-in-turn-one (gone e a f) (dirty d b u g) = clash a b
-in-turn-one (clean e a u v f) (gone d b g) = clash b a
-in-turn-one (clean e a u v f) (clean d b x y g) = in-turn-one f g
-in-turn-one (clean e a u v f) (unchanged d b x y k g) = clash y v
-in-turn-one (clean e a u v f) (changed d b x y k g) = clash y v
-in-turn-one (clean e a u v f) (dirty d b x g) = clash x u
-in-turn-one (unchanged e a u v h f) (gone d b g) = clash b a
-in-turn-one (unchanged e a u v h f) (clean d b x y g) = clash v y
-in-turn-one {p = p} (unchanged {q = q} e a u v h f) (unchanged d b x y k g) = in-turn-one f (subst (λ (z : St). InTurn (setFl z e f2) q p) (sym (checks-one _ e _ _ false false h k).0) g)
-in-turn-one (unchanged e a u v h f) (changed d b x y k g) = false≢true (checks-one _ e _ _ false true h k).1
-in-turn-one (unchanged e a u v h f) (dirty d b x g) = clash x u
-in-turn-one (changed e a u v h f) (gone d b g) = clash b a
-in-turn-one (changed e a u v h f) (clean d b x y g) = clash v y
-in-turn-one (changed e a u v h f) (unchanged d b x y k g) = false≢true (sym (checks-one _ e _ _ true false h k).1)
-in-turn-one (changed {q = q} e a u v h f) (changed {r = r} d b x y k g) = ap (λ (l : List ℕ). e ∷ l) (in-turn-one f (subst (λ (z : St). InTurn (rerun z e) q r) (sym (checks-one _ e _ _ true true h k).0) g))
-in-turn-one (changed e a u v h f) (dirty d b x g) = clash x u
-in-turn-one (dirty e a u f) (gone d b g) = clash b a
-in-turn-one (dirty e a u f) (clean d b x y g) = clash u x
-in-turn-one (dirty e a u f) (unchanged d b x y k g) = clash u x
-in-turn-one (dirty e a u f) (changed d b x y k g) = clash u x
-in-turn-one (dirty e a u f) (dirty d b x g) = ap (λ (l : List ℕ). e ∷ l) (in-turn-one f g)
+pub in_turn_one : {s : St} {q r p : List ℕ} → InTurn s q r → InTurn s q p → r ≡ p
+in_turn_one ends ends = refl
+in_turn_one (gone e a f) (gone d b g) = in_turn_one f g
+in_turn_one (gone e a f) (clean d b u v g) = clash a b
+in_turn_one (gone e a f) (unchanged d b u v k g) = clash a b
+in_turn_one (gone e a f) (changed d b u v k g) = clash a b
+in_turn_one (gone e a f) (dirty d b u g) = clash a b
+in_turn_one (clean e a u v f) (gone d b g) = clash b a
+in_turn_one (clean e a u v f) (clean d b x y g) = in_turn_one f g
+in_turn_one (clean e a u v f) (unchanged d b x y k g) = clash y v
+in_turn_one (clean e a u v f) (changed d b x y k g) = clash y v
+in_turn_one (clean e a u v f) (dirty d b x g) = clash x u
+in_turn_one (unchanged e a u v h f) (gone d b g) = clash b a
+in_turn_one (unchanged e a u v h f) (clean d b x y g) = clash v y
+in_turn_one {p = p} (unchanged {q = q} e a u v h f) (unchanged d b x y k g) = in_turn_one f (subst (λ (z : St). InTurn (set_fl z e f2) q p) (sym (checks_one _ e _ _ false false h k).0) g)
+in_turn_one (unchanged e a u v h f) (changed d b x y k g) = false≢true (checks_one _ e _ _ false true h k).1
+in_turn_one (unchanged e a u v h f) (dirty d b x g) = clash x u
+in_turn_one (changed e a u v h f) (gone d b g) = clash b a
+in_turn_one (changed e a u v h f) (clean d b x y g) = clash v y
+in_turn_one (changed e a u v h f) (unchanged d b x y k g) = false≢true (sym (checks_one _ e _ _ true false h k).1)
+in_turn_one (changed {q = q} e a u v h f) (changed {r = r} d b x y k g) = ap (λ (l : List ℕ). e ∷ l) (in_turn_one f (subst (λ (z : St). InTurn (rerun z e) q r) (sym (checks_one _ e _ _ true true h k).0) g))
+in_turn_one (changed e a u v h f) (dirty d b x g) = clash x u
+in_turn_one (dirty e a u f) (gone d b g) = clash b a
+in_turn_one (dirty e a u f) (clean d b x y g) = clash u x
+in_turn_one (dirty e a u f) (unchanged d b x y k g) = clash u x
+in_turn_one (dirty e a u f) (changed d b x y k g) = clash u x
+in_turn_one (dirty e a u f) (dirty d b x g) = ap (λ (l : List ℕ). e ∷ l) (in_turn_one f g)
 
-pub begins-one : {s p q : St} {c : Command} → FlushBegins s c p → FlushBegins s c q → p ≡ q
-begins-one (as_before a e) (as_before b f) = refl
-begins-one (as_before (sets n v) e) (walks (sets m w) f h) = absurd (f e)
-begins-one (as_before (adds n v) e) (walks (adds m w) f h) = absurd (f e)
-begins-one (walks (sets n v) f h) (as_before (sets m w) e) = absurd (f e)
-begins-one (walks (adds n v) f h) (as_before (adds m w) e) = absurd (f e)
-begins-one {s = s} (walks (sets n v) f h) (walks (sets m w) g i) = ap (withMarks (wrote s (nodeOf n) (value v))) (walked_one h i)
-begins-one {s = s} (walks (adds n v) f h) (walks (adds m w) g i) = ap (withMarks (wrote s (nodeOf n) (sum (s.sto (nodeOf n)) (value v)))) (walked_one h i)
-begins-one batch batch = refl
+pub begins_one : {s p q : St} {c : Command} → FlushBegins s c p → FlushBegins s c q → p ≡ q
+begins_one (as_before a e) (as_before b f) = refl
+begins_one (as_before (sets n v) e) (walks (sets m w) f h) = absurd (f e)
+begins_one (as_before (adds n v) e) (walks (adds m w) f h) = absurd (f e)
+begins_one (walks (sets n v) f h) (as_before (sets m w) e) = absurd (f e)
+begins_one (walks (adds n v) f h) (as_before (adds m w) e) = absurd (f e)
+begins_one {s = s} (walks (sets n v) f h) (walks (sets m w) g i) = ap (with_marks (wrote s (node_of n) (value v))) (walked_one h i)
+begins_one {s = s} (walks (adds n v) f h) (walks (adds m w) g i) = ap (with_marks (wrote s (node_of n) (sum (s.sto (node_of n)) (value v)))) (walked_one h i)
+begins_one batch batch = refl

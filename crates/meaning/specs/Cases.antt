@@ -19,41 +19,41 @@ unfoldable pub answers : St → ℕ → List (List ℤ) → List Told
 answers s rows [] = []
 answers s rows (c ∷ cs) = let a = command true s rows c in (a.code, a.val, shown a.rows) ∷ answers a.st rows cs
 
-unfoldable pub afterAll : St → ℕ → List (List ℤ) → St
-afterAll s rows [] = s
-afterAll s rows (c ∷ cs) = afterAll (command true s rows c).st rows cs
+unfoldable pub after_all : St → ℕ → List (List ℤ) → St
+after_all s rows [] = s
+after_all s rows (c ∷ cs) = after_all (command true s rows c).st rows cs
 
 -- ---- the words of a command
-abbrev pub signalW : ℤ → List ℤ
-signalW v = pos 1 ∷ v ∷ []
+abbrev pub signal_w : ℤ → List ℤ
+signal_w v = pos 1 ∷ v ∷ []
 
-abbrev pub computedW : Tree → List ℤ
-computedW t = pos 2 ∷ written t
+abbrev pub computed_w : Tree → List ℤ
+computed_w t = pos 2 ∷ written t
 
 -- -1 is no owner
 abbrev pub unowned : ℤ
 unowned = negsuc 0
 
-abbrev pub effectW : ℤ → Tree → List ℤ
-effectW o t = pos 3 ∷ o ∷ written t
+abbrev pub effect_w : ℤ → Tree → List ℤ
+effect_w o t = pos 3 ∷ o ∷ written t
 
-abbrev pub setW : ℕ → ℤ → List ℤ
-setW n v = pos 5 ∷ pos n ∷ v ∷ []
+abbrev pub set_w : ℕ → ℤ → List ℤ
+set_w n v = pos 5 ∷ pos n ∷ v ∷ []
 
 abbrev pub add_w : ℕ → ℤ → List ℤ
 add_w n d = pos 6 ∷ pos n ∷ d ∷ []
 
-abbrev pub readW : ℕ → List ℤ
-readW n = pos 7 ∷ pos n ∷ []
+abbrev pub read_w : ℕ → List ℤ
+read_w n = pos 7 ∷ pos n ∷ []
 
-abbrev pub disposeW : ℕ → List ℤ
-disposeW n = pos 8 ∷ pos n ∷ []
+abbrev pub dispose_w : ℕ → List ℤ
+dispose_w n = pos 8 ∷ pos n ∷ []
 
-abbrev pub startW : List ℤ
-startW = pos 9 ∷ []
+abbrev pub start_w : List ℤ
+start_w = pos 9 ∷ []
 
-abbrev pub endW : List ℤ
-endW = pos 10 ∷ []
+abbrev pub end_w : List ℤ
+end_w = pos 10 ∷ []
 
 -- ---- what is answered: a value and no run; a value and one run; a refusal
 abbrev pub gives : ℤ → Told
@@ -80,55 +80,55 @@ abbrev pub least : ℤ
 least = negsuc greatest
 
 abbrev pub case1 : Case
-case1 = case (signalW (pos 5) ∷ computedW (two Sum (read 0) (constant (pos 1))) ∷ readW 1 ∷ setW 0 (pos 7) ∷ readW 1 ∷ [])
+case1 = case (signal_w (pos 5) ∷ computed_w (two Sum (read 0) (constant (pos 1))) ∷ read_w 1 ∷ set_w 0 (pos 7) ∷ read_w 1 ∷ [])
     (gives (pos 0) ∷ gives (pos 1) ∷ gives (pos 6) ∷ gives (pos 0) ∷ gives (pos 8) ∷ [])
 
 abbrev pub case2 : Case
-case2 = case (signalW (pos 5) ∷ effectW unowned (read 0) ∷ setW 0 (pos 5) ∷ setW 0 (pos 6) ∷ [])
+case2 = case (signal_w (pos 5) ∷ effect_w unowned (read 0) ∷ set_w 0 (pos 5) ∷ set_w 0 (pos 6) ∷ [])
     (gives (pos 0) ∷ runs (pos 1) 1 (pos 5) ∷ gives (pos 0) ∷ runs (pos 0) 1 (pos 6) ∷ [])
 
 abbrev pub case3 : Case
-case3 = case (signalW (pos 5) ∷ computedW (two Less (read 0) (constant (pos 10))) ∷ effectW unowned (read 1) ∷ setW 0 (pos 8) ∷ [])
+case3 = case (signal_w (pos 5) ∷ computed_w (two Less (read 0) (constant (pos 10))) ∷ effect_w unowned (read 1) ∷ set_w 0 (pos 8) ∷ [])
     (gives (pos 0) ∷ gives (pos 1) ∷ runs (pos 2) 2 (pos 1) ∷ gives (pos 0) ∷ [])
 
 abbrev pub case4 : Case
-case4 = case (signalW (pos 5) ∷ effectW unowned (read 0) ∷ startW ∷ setW 0 (pos 3) ∷ setW 0 (pos 5) ∷ endW ∷ [])
+case4 = case (signal_w (pos 5) ∷ effect_w unowned (read 0) ∷ start_w ∷ set_w 0 (pos 3) ∷ set_w 0 (pos 5) ∷ end_w ∷ [])
     (gives (pos 0) ∷ runs (pos 1) 1 (pos 5) ∷ gives (pos 0) ∷ gives (pos 0) ∷ gives (pos 0) ∷ gives (pos 0) ∷ [])
 
 abbrev pub case5 : Case
-case5 = case (signalW (pos 5) ∷ effectW unowned (read 0) ∷ startW ∷ setW 0 (pos 3) ∷ readW 0 ∷ setW 0 (pos 5) ∷ endW ∷ [])
+case5 = case (signal_w (pos 5) ∷ effect_w unowned (read 0) ∷ start_w ∷ set_w 0 (pos 3) ∷ read_w 0 ∷ set_w 0 (pos 5) ∷ end_w ∷ [])
     (gives (pos 0) ∷ runs (pos 1) 1 (pos 5) ∷ gives (pos 0) ∷ gives (pos 0) ∷ gives (pos 3) ∷ gives (pos 0) ∷ runs (pos 0) 1 (pos 5) ∷ [])
 
 abbrev pub case6 : Case
-case6 = case (signalW (pos 0) ∷ setW 0 (pos 5) ∷ add_w 0 (pos 1) ∷ readW 0 ∷ []) (gives (pos 0) ∷ gives (pos 0) ∷ gives (pos 0) ∷ gives (pos 1) ∷ [])
+case6 = case (signal_w (pos 0) ∷ set_w 0 (pos 5) ∷ add_w 0 (pos 1) ∷ read_w 0 ∷ []) (gives (pos 0) ∷ gives (pos 0) ∷ gives (pos 0) ∷ gives (pos 1) ∷ [])
 
 -- with a read after the set
 abbrev pub case6b : Case
-case6b = case (signalW (pos 0) ∷ setW 0 (pos 5) ∷ readW 0 ∷ add_w 0 (pos 1) ∷ readW 0 ∷ [])
+case6b = case (signal_w (pos 0) ∷ set_w 0 (pos 5) ∷ read_w 0 ∷ add_w 0 (pos 1) ∷ read_w 0 ∷ [])
     (gives (pos 0) ∷ gives (pos 0) ∷ gives (pos 5) ∷ gives (pos 0) ∷ gives (pos 6) ∷ [])
 
 abbrev pub case7 : Case
-case7 = case (signalW (pos 0) ∷ effectW unowned (read 0) ∷ effectW (pos 1) (read 0) ∷ setW 0 (pos 4) ∷ disposeW 2 ∷ [])
+case7 = case (signal_w (pos 0) ∷ effect_w unowned (read 0) ∷ effect_w (pos 1) (read 0) ∷ set_w 0 (pos 4) ∷ dispose_w 2 ∷ [])
     (gives (pos 0) ∷ runs (pos 1) 1 (pos 0) ∷ runs (pos 2) 2 (pos 0) ∷ runs (pos 0) 1 (pos 4) ∷ refuses 4 ∷ [])
 
 abbrev pub case8 : Case
-case8 = case (signalW (pos 0) ∷ signalW (pos 0) ∷ effectW unowned (read 0) ∷ effectW (pos 2) (read 1) ∷ setW 1 (pos 9) ∷ [])
+case8 = case (signal_w (pos 0) ∷ signal_w (pos 0) ∷ effect_w unowned (read 0) ∷ effect_w (pos 2) (read 1) ∷ set_w 1 (pos 9) ∷ [])
     (gives (pos 0) ∷ gives (pos 1) ∷ runs (pos 2) 2 (pos 0) ∷ runs (pos 3) 3 (pos 0) ∷ runs (pos 0) 3 (pos 9) ∷ [])
 
 abbrev pub case9 : Case
-case9 = case (signalW (pos 0) ∷ signalW (pos 0) ∷ effectW unowned (read 0) ∷ effectW (pos 2) (read 1) ∷ startW ∷ setW 1 (pos 9) ∷ setW 0 (pos 4) ∷ endW ∷ [])
+case9 = case (signal_w (pos 0) ∷ signal_w (pos 0) ∷ effect_w unowned (read 0) ∷ effect_w (pos 2) (read 1) ∷ start_w ∷ set_w 1 (pos 9) ∷ set_w 0 (pos 4) ∷ end_w ∷ [])
     (gives (pos 0) ∷ gives (pos 1) ∷ runs (pos 2) 2 (pos 0) ∷ runs (pos 3) 3 (pos 0) ∷ gives (pos 0) ∷ gives (pos 0) ∷ gives (pos 0) ∷ runs (pos 0) 2 (pos 4) ∷ [])
 
 abbrev pub case10 : Case
 case10 = case
-    (computedW (two Sum (constant most) (constant (pos 1))) ∷ computedW (two Difference (constant (pos 0)) (constant least)) ∷ computedW (two Difference (constant least) (constant (pos 1))) ∷ readW 0 ∷ readW 1 ∷ readW 2 ∷ [])
+    (computed_w (two Sum (constant most) (constant (pos 1))) ∷ computed_w (two Difference (constant (pos 0)) (constant least)) ∷ computed_w (two Difference (constant least) (constant (pos 1))) ∷ read_w 0 ∷ read_w 1 ∷ read_w 2 ∷ [])
     (gives (pos 0) ∷ gives (pos 1) ∷ gives (pos 2) ∷ gives most ∷ gives most ∷ gives least ∷ [])
 
 abbrev pub case11 : Case
-case11 = case (endW ∷ replicate 64 startW ++ startW ∷ []) (refuses 8 ∷ replicate 64 (gives (pos 0)) ++ refuses 8 ∷ [])
+case11 = case (end_w ∷ replicate 64 start_w ++ start_w ∷ []) (refuses 8 ∷ replicate 64 (gives (pos 0)) ++ refuses 8 ∷ [])
 
 abbrev pub case12 : Case
-case12 = case (signalW (pos 0) ∷ computedW (read 0) ∷ effectW unowned (two Sum (read 0) (two Sum (read 1) (read 0))) ∷ [])
+case12 = case (signal_w (pos 0) ∷ computed_w (read 0) ∷ effect_w unowned (two Sum (read 0) (two Sum (read 1) (read 0))) ∷ [])
     (gives (pos 0) ∷ gives (pos 1) ∷ runs (pos 2) 2 (pos 0) ∷ [])
 
 abbrev pub table : List Case
@@ -148,7 +148,7 @@ ends s (l ∷ ls) = (s.dep l, s.sub l) ∷ ends s ls
 
 -- the live links of case 12: those of the computed, those of the effect, and the slots that are free
 abbrev pub links12 : List (ℕ × ℕ) × List (ℕ × ℕ) × List ℕ
-links12 = let s = afterAll (empty small) rows case12.script in (ends s (deps s 1), ends s (deps s 2), s.free)
+links12 = let s = after_all (empty small) rows case12.script in (ends s (deps s 1), ends s (deps s 2), s.free)
 
 -- each case is answered so, and in the last are four live links, two of them from 0 to the effect
 unfoldable pub Holds : List Case → Type 0

@@ -1,11 +1,11 @@
 -- The order of the dirty check, which document 01 leaves to the Rust (`check_dirty`): the plain depth-first look along dependency links, from the first on, up to one that has changed.
 -- It has no budget and no stack.
 use Rattle.std.specs.Prelude.{◌≡◌, Bool, true, false, List, [], ◌∷◌, ℕ}
-use Rattle.meaning.specs.State.{St, deps, withPending}
-use Rattle.meaning.specs.Setters.{setFl}
+use Rattle.meaning.specs.State.{St, deps, with_pending}
+use Rattle.meaning.specs.Setters.{set_fl}
 use Rattle.meaning.specs.Links.{several}
 use Rattle.meaning.specs.Marks.{shallow}
-use Rattle.meaning.specs.Reads.{ans, updW, fresh}
+use Rattle.meaning.specs.Reads.{ans, upd_w, fresh}
 
 -- where the check is: at the links of u that are left, or at one dependency
 pub data Place : Type 0 where
@@ -36,13 +36,13 @@ pub data Looked (U : St → ℕ → St → Bool → Type 0) : Place → St → S
   updates : {s t : St} {d : ℕ} {b : Bool} → (s.fl d).dirty ≡ true → U s d t b → Looked U (at d) s t b
   -- a pending one: its own dependencies first; nothing has changed, and PENDING goes
   clears : {s x : St} {d : ℕ} → (s.fl d).dirty ≡ false → (s.fl d).pending ≡ true → Looked U (along d (deps s d)) s x false
-      → Looked U (at d) s (setFl x d (withPending (x.fl d) false)) false
+      → Looked U (at d) s (set_fl x d (with_pending (x.fl d) false)) false
   -- or one has, and it is updated
   follows : {s x t : St} {d : ℕ} {b : Bool} → (s.fl d).dirty ≡ false → (s.fl d).pending ≡ true → Looked U (along d (deps s d)) s x true → U x d t b → Looked U (at d) s t b
 
 -- an update as it is defined (Reads), whose budget was enough
 abbrev pub Updated : St → ℕ → St → Bool → Type 0
-Updated s d t b = (k : ℕ) × (updW (fresh k) (s.kind d) s d ≡ ans t b) × (t.stuck ≡ false)
+Updated s d t b = (k : ℕ) × (upd_w (fresh k) (s.kind d) s d ≡ ans t b) × (t.stuck ≡ false)
 
 -- the dirty check of u
 abbrev pub Checks : St → ℕ → St → Bool → Type 0

@@ -4,11 +4,11 @@ use Rattle.std.proofs.Math.Option.{Option, none, some}
 use Rattle.values.specs.declared.Value.{Value}
 use Rattle.values.specs.Values.{value, sum}
 use Rattle.meaning.specs.State.{St, Room, capacities, Row, nothing, empty}
-use Rattle.meaning.specs.Setters.{withLog}
+use Rattle.meaning.specs.Setters.{with_log}
 use Rattle.meaning.specs.Links.{stop, dispose}
 use Rattle.meaning.specs.Reads.{settle}
-use Rattle.meaning.specs.Engine.{store, newSignal, newComputed, newEffect, newScope, start, end_at}
-use Rattle.meaning.specs.Words.{Command, makeSignal, makeComputed, makeEffect, makeScope, set_to, addTo, read_of, disposeOf, batchStart, batchEnd, commandOf, nodeOf, ownerOf, formulaOf}
+use Rattle.meaning.specs.Engine.{store, new_signal, new_computed, new_effect, new_scope, start, end_at}
+use Rattle.meaning.specs.Words.{Command, make_signal, make_computed, make_effect, make_scope, set_to, add_to, read_of, dispose_of, batch_start, batch_end, command_of, node_of, owner_of, formula_of}
 use Rattle.meaning.specs.Refusals.{sight_of, refusal}
 
 -- a state and the value returned
@@ -25,20 +25,20 @@ number s = value (pos s.size)
 
 -- ---- doing
 unfoldable pub perform : St → Command → Done
-perform s (makeSignal v) = back (newSignal s (value v)) (number s)
-perform s (makeComputed cs) = back (newComputed s (formulaOf cs)) (number s)
-perform s (makeEffect o cs) = back (newEffect s (ownerOf o) (formulaOf cs)) (number s)
-perform s (makeScope o) = back (newScope s (ownerOf o)) (number s)
-perform s (set_to n v) = back (store s (nodeOf n) (value v)) nothing
-perform s (addTo n d) = back (store s (nodeOf n) (sum (s.sto (nodeOf n)) (value d))) nothing
-perform s (read_of n) = let t = settle s (nodeOf n) in back t (t.sto (nodeOf n))
-perform s (disposeOf n) = back (dispose s (nodeOf n)) nothing
-perform s batchStart = back (start s) nothing
-perform s batchEnd = back (end_at s s.depth) nothing
+perform s (make_signal v) = back (new_signal s (value v)) (number s)
+perform s (make_computed cs) = back (new_computed s (formula_of cs)) (number s)
+perform s (make_effect o cs) = back (new_effect s (owner_of o) (formula_of cs)) (number s)
+perform s (make_scope o) = back (new_scope s (owner_of o)) (number s)
+perform s (set_to n v) = back (store s (node_of n) (value v)) nothing
+perform s (add_to n d) = back (store s (node_of n) (sum (s.sto (node_of n)) (value d))) nothing
+perform s (read_of n) = let t = settle s (node_of n) in back t (t.sto (node_of n))
+perform s (dispose_of n) = back (dispose s (node_of n)) nothing
+perform s batch_start = back (start s) nothing
+perform s batch_end = back (end_at s s.depth) nothing
 
-unfoldable pub performAny : St → Option Command → Done
-performAny s none = back (stop s) nothing
-performAny s (some c) = perform s c
+unfoldable pub perform_any : St → Option Command → Done
+perform_any s none = back (stop s) nothing
+perform_any s (some c) = perform s c
 
 -- ---- the answer: refusal number, value, and the log rows, which are the runs
 pub record Answer : Type 0 where
@@ -58,7 +58,7 @@ abbrev pub refused : St → ℕ → Answer
 refused s r = record { st = s; code = r; val = nothing; rows = [] }
 
 unfoldable pub answer : ℕ → St → List ℤ → Answer
-answer zero s ws = accepted (performAny (withLog s []) (commandOf ws))
+answer zero s ws = accepted (perform_any (with_log s []) (command_of ws))
 answer (suc r) s ws = refused s (suc r)
 
 -- well: whether the lent tables are well formed; rows: of the lent log

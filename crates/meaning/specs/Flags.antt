@@ -32,11 +32,11 @@ f48 = record { mutable = false; watching = false; recursed_check = false; recurs
 abbrev pub f49 : Named
 f49 = record { mutable = true; watching = false; recursed_check = false; recursed = false; dirty = true; pending = true }
 
-abbrev pub withWatching : Named → Bool → Named
-withWatching f b = record { mutable = f.mutable; watching = b; recursed_check = f.recursed_check; recursed = f.recursed; dirty = f.dirty; pending = f.pending }
+abbrev pub with_watching : Named → Bool → Named
+with_watching f b = record { mutable = f.mutable; watching = b; recursed_check = f.recursed_check; recursed = f.recursed; dirty = f.dirty; pending = f.pending }
 
-abbrev pub withDirty : Named → Bool → Named
-withDirty f b = record { mutable = f.mutable; watching = f.watching; recursed_check = f.recursed_check; recursed = f.recursed; dirty = b; pending = f.pending }
+abbrev pub with_dirty : Named → Bool → Named
+with_dirty f b = record { mutable = f.mutable; watching = f.watching; recursed_check = f.recursed_check; recursed = f.recursed; dirty = b; pending = f.pending }
 
-abbrev pub withPending : Named → Bool → Named
-withPending f b = record { mutable = f.mutable; watching = f.watching; recursed_check = f.recursed_check; recursed = f.recursed; dirty = f.dirty; pending = b }
+abbrev pub with_pending : Named → Bool → Named
+with_pending f b = record { mutable = f.mutable; watching = f.watching; recursed_check = f.recursed_check; recursed = f.recursed; dirty = f.dirty; pending = b }

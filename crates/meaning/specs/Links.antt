@@ -4,11 +4,11 @@ pub use mathlib.Core.List.{head? as head_of}
 use Rattle.std.proofs.Math.Option.{Option, none, some}
 use Rattle.meaning.specs.State.{St, on, f0, f17}
 use Rattle.meaning.specs.Reserve.{reserve}
-use Rattle.meaning.specs.Setters.{withFree, withStuck, setDone, setRest, setSubs, setLive, setDep, setSub, setVer, setFl, setGone}
+use Rattle.meaning.specs.Setters.{with_free, with_stuck, set_done, set_rest, set_subs, set_live, set_dep, set_sub, set_ver, set_fl, set_gone}
 
 -- the operation cannot go on
 abbrev pub stop : St → St
-stop s = withStuck s true
+stop s = with_stuck s true
 
 -- it can go on only where b holds
 unfoldable pub provided : Bool → St → St
@@ -19,14 +19,14 @@ abbrev pub last_of : List ℕ → Option ℕ
 last_of [] = none
 last_of (x ∷ xs) = elim (last_of xs) [ none ↦ some x | some y ↦ some y ]
 
-abbrev pub isNil : List ℕ → Bool
-isNil [] = true
-isNil (x ∷ xs) = false
+abbrev pub is_nil : List ℕ → Bool
+is_nil [] = true
+is_nil (x ∷ xs) = false
 
 -- two or more
 abbrev pub several : List ℕ → Bool
 several [] = false
-several (x ∷ xs) = not (isNil xs)
+several (x ∷ xs) = not (is_nil xs)
 
 unfoldable pub remove : ℕ → List ℕ → List ℕ
 remove l [] = []
@@ -38,16 +38,16 @@ each f s [] = s
 each f s (l ∷ ls) = each f (f s l) ls
 
 -- ---- link d u v: u reads (or owns) d, at version v
-abbrev pub goesTo : St → Option ℕ → ℕ → Bool
-goesTo s o d = on o (λ l. eqb (s.dep l) d)
+abbrev pub goes_to : St → Option ℕ → ℕ → Bool
+goes_to s o d = on o (λ l. eqb (s.dep l) d)
 
-abbrev pub isFrom : St → Option ℕ → ℕ → ℕ → Bool
-isFrom s o u v = on o (λ l. eqb (s.ver l) v && eqb (s.sub l) u)
+abbrev pub is_from : St → Option ℕ → ℕ → ℕ → Bool
+is_from s o u v = on o (λ l. eqb (s.ver l) v && eqb (s.sub l) u)
 
 -- the next old link is taken over: the cursor passes it
 unfoldable pub renew : St → ℕ → ℕ → List ℕ → St
 renew s u v [] = stop s
-renew s u v (l ∷ ls) = setRest (setDone (setVer s l v) u (s.done u ++ l ∷ [])) u ls
+renew s u v (l ∷ ls) = set_rest (set_done (set_ver s l v) u (s.done u ++ l ∷ [])) u ls
 
 -- as many links are live as the reserve allows, or it exceeds the link slots
 unfoldable pub spent : St → Bool
@@ -57,14 +57,14 @@ spent s = leb (reserve s + length s.free) s.room.slots || ltb s.room.slots (rese
 unfoldable pub insert : St → ℕ → ℕ → ℕ → List ℕ → St
 insert s d u v [] = stop s
 insert s d u v (l ∷ ls) =
-    withStuck (setSubs (setDone (setVer (setSub (setDep (setLive (withFree s ls) l true) l d) l u) l v) u (s.done u ++ l ∷ [])) d (s.subs d ++ l ∷ [])) (s.stuck || spent s)
+    with_stuck (set_subs (set_done (set_ver (set_sub (set_dep (set_live (with_free s ls) l true) l d) l u) l v) u (s.done u ++ l ∷ [])) d (s.subs d ++ l ∷ [])) (s.stuck || spent s)
 
 -- the link before the cursor goes to d; the one after it does; the newest of d is of u at this version; else a new one
 unfoldable pub link : St → ℕ → ℕ → ℕ → St
 link s d u v =
-    let unless-next : St = elim (isFrom s (last_of (s.subs d)) u v) [ true ↦ s | false ↦ insert s d u v s.free ] in
-    let unless-last : St = elim (goesTo s (head_of (s.rest u)) d) [ true ↦ renew s u v (s.rest u) | false ↦ unless-next ] in
-    elim (goesTo s (last_of (s.done u)) d) [ true ↦ s | false ↦ unless-last ]
+    let unless_next : St = elim (is_from s (last_of (s.subs d)) u v) [ true ↦ s | false ↦ insert s d u v s.free ] in
+    let unless_last : St = elim (goes_to s (head_of (s.rest u)) d) [ true ↦ renew s u v (s.rest u) | false ↦ unless_next ] in
+    elim (goes_to s (last_of (s.done u)) d) [ true ↦ s | false ↦ unless_last ]
 
 -- ---- the ring; ul is unlink
 -- the link leaves both lists, and its slot is free before anything else happens
@@ -72,37 +72,37 @@ unfoldable pub cut : St → ℕ → St
 cut s l =
     let d = s.dep l in
     let u = s.sub l in
-    withFree (setLive (setSubs (setRest (setDone s u (remove l (s.done u))) u (remove l (s.rest u))) d (remove l (s.subs d))) l false) (l ∷ s.free)
+    with_free (set_live (set_subs (set_rest (set_done s u (remove l (s.done u))) u (remove l (s.rest u))) d (remove l (s.subs d))) l false) (l ∷ s.free)
 
 -- the cursor before the first dependency
 abbrev pub rewind : St → ℕ → St
-rewind s u = setRest (setDone s u []) u (s.done u ++ s.rest u)
+rewind s u = set_rest (set_done s u []) u (s.done u ++ s.rest u)
 
 -- the links after the cursor go
-abbrev pub purgeW : (St → ℕ → St) → St → ℕ → St
-purgeW ul s u = each ul s (s.rest u)
+abbrev pub purge_w : (St → ℕ → St) → St → ℕ → St
+purge_w ul s u = each ul s (s.rest u)
 
-unfoldable pub lastLink : (St → ℕ → St) → St → Option ℕ → St
-lastLink ul s none = s
-lastLink ul s (some l) = ul s l
+unfoldable pub last_link : (St → ℕ → St) → St → Option ℕ → St
+last_link ul s none = s
+last_link ul s (some l) = ul s l
 
 -- gone for good, with all links, the one to its owner last
-unfoldable pub disposeW : (St → ℕ → St) → St → ℕ → St
-disposeW ul s x =
-    let t = purgeW ul (setGone (setFl (rewind s x) x f0) x true) x in
-    lastLink ul t (head_of (t.subs x))
+unfoldable pub dispose_w : (St → ℕ → St) → St → ℕ → St
+dispose_w ul s x =
+    let t = purge_w ul (set_gone (set_fl (rewind s x) x f0) x true) x in
+    last_link ul t (head_of (t.subs x))
 
 -- d has lost its last subscriber: an effect or a scope is disposed; a computed with dependencies becomes 17 and drops them
-unfoldable pub unwatchedW : (St → ℕ → St) → St → ℕ → St
-unwatchedW ul s d =
-    let dropped : St = elim (isNil (s.done d)) [ true ↦ s | false ↦ purgeW ul (setFl (rewind s d) d f17) d ] in
-    elim (s.fl d).mutable [ true ↦ dropped | false ↦ disposeW ul s d ]
+unfoldable pub unwatched_w : (St → ℕ → St) → St → ℕ → St
+unwatched_w ul s d =
+    let dropped : St = elim (is_nil (s.done d)) [ true ↦ s | false ↦ purge_w ul (set_fl (rewind s d) d f17) d ] in
+    elim (s.fl d).mutable [ true ↦ dropped | false ↦ dispose_w ul s d ]
 
 -- stuck where the budget ends, or the slot is free already
-unfoldable pub unlinkN : ℕ → St → ℕ → St
-unlinkN zero s l = stop s
-unlinkN (suc k) s l =
-    let unlinked : St = elim (isNil ((cut s l).subs (s.dep l))) [ true ↦ unwatchedW (unlinkN k) (cut s l) (s.dep l) | false ↦ cut s l ] in
+unfoldable pub unlink_n : ℕ → St → ℕ → St
+unlink_n zero s l = stop s
+unlink_n (suc k) s l =
+    let unlinked : St = elim (is_nil ((cut s l).subs (s.dep l))) [ true ↦ unwatched_w (unlink_n k) (cut s l) (s.dep l) | false ↦ cut s l ] in
     elim (s.live l) [ true ↦ unlinked | false ↦ stop s ]
 
 -- the number of slots is budget enough: each unlink frees one before it calls on
@@ -110,10 +110,10 @@ abbrev pub budget : St → ℕ
 budget s = suc s.room.slots
 
 abbrev pub unlink : St → ℕ → St
-unlink s l = unlinkN (budget s) s l
+unlink s l = unlink_n (budget s) s l
 
 abbrev pub purge : St → ℕ → St
-purge s u = purgeW (unlinkN (budget s)) s u
+purge s u = purge_w (unlink_n (budget s)) s u
 
 abbrev pub dispose : St → ℕ → St
-dispose s x = disposeW (unlinkN (budget s)) s x
+dispose s x = dispose_w (unlink_n (budget s)) s x

@@ -2,8 +2,8 @@
 use Rattle.std.specs.Prelude.{Bool, true, false, not, ◌&&◌, ◌||◌, List, [], ◌∷◌, ◌++◌, reverse, ℕ, zero, suc, ◌+◌, leb, ltb, length}
 use Rattle.std.proofs.Math.Option.{Option, none, some}
 use Rattle.flags.specs.declared.Named.{Named}
-use Rattle.meaning.specs.State.{St, Kind, signal, computed, effect, scope, unclean, recursing, withPending, withDirty, withWatching, up}
-use Rattle.meaning.specs.Setters.{withFl, withQueue, withStuck}
+use Rattle.meaning.specs.State.{St, Kind, signal, computed, effect, scope, unclean, recursing, with_pending, with_dirty, with_watching, up}
+use Rattle.meaning.specs.Setters.{with_fl, with_queue, with_stuck}
 use Rattle.meaning.specs.Links.{several}
 
 pub record Marks : Type 0 where
@@ -14,11 +14,11 @@ pub record Marks : Type 0 where
 abbrev pub marks : (ℕ → Named) → List ℕ → Bool → Marks
 marks f q b = record { fl = f; queue = q; stuck = b }
 
-abbrev pub marksOf : St → Marks
-marksOf s = marks s.fl s.queue s.stuck
+abbrev pub marks_of : St → Marks
+marks_of s = marks s.fl s.queue s.stuck
 
-abbrev pub withMarks : St → Marks → St
-withMarks s m = withStuck (withQueue (withFl s m.fl) m.queue) m.stuck
+abbrev pub with_marks : St → Marks → St
+with_marks s m = with_stuck (with_queue (with_fl s m.fl) m.queue) m.stuck
 
 -- cannot go on where b holds
 abbrev pub halt : Marks → Bool → Marks
@@ -33,14 +33,14 @@ chain (suc k) ow f e = e ∷ (elim (ow e) [ none ↦ [] | some o ↦ elim (f o).
 -- these watch no longer
 unfoldable pub calm : List ℕ → (ℕ → Named) → ℕ → Named
 calm [] f = f
-calm (e ∷ c) f = calm c (up f e (withWatching (f e) false))
+calm (e ∷ c) f = calm c (up f e (with_watching (f e) false))
 
-abbrev pub isEffect : Kind → Bool
-isEffect k = elim k [ signal ↦ false | computed ↦ false | effect ↦ true | scope ↦ false ]
+abbrev pub is_effect : Kind → Bool
+is_effect k = elim k [ signal ↦ false | computed ↦ false | effect ↦ true | scope ↦ false ]
 
 unfoldable pub effects : (ℕ → Kind) → List ℕ → Bool
 effects k [] = true
-effects k (e ∷ c) = isEffect (k e) && effects k c
+effects k (e ∷ c) = is_effect (k e) && effects k c
 
 -- owners first; stuck where the queue is full (a chain that does not end fills it), or what watches is no effect
 unfoldable pub notify : St → Marks → ℕ → Marks
@@ -53,12 +53,12 @@ notify s m e =
 -- u may be stale
 unfoldable pub mark : St → Marks → ℕ → Marks
 mark s m u =
-    let t = marks (up m.fl u (withPending (m.fl u) true)) m.queue m.stuck in
+    let t = marks (up m.fl u (with_pending (m.fl u) true)) m.queue m.stuck in
     elim (m.fl u).watching [ true ↦ notify s t u | false ↦ t ]
 
 -- the stack of lists put aside holds at most as many as nodes
-abbrev pub stackFull : St → List (List ℕ) → Bool
-stackFull s st = leb s.room.nodes (length st)
+abbrev pub stack_full : St → List (List ℕ) → Bool
+stack_full s st = leb s.room.nodes (length st)
 
 -- w: the links to visit next; st: the lists put aside on the way down
 unfoldable pub prop : St → ℕ → Marks → List ℕ → List (List ℕ) → Marks
@@ -67,24 +67,24 @@ prop s (suc k) m [] [] = m
 prop s (suc k) m [] (w ∷ st) = prop s k m w st
 prop s (suc k) m (l ∷ w) st =
     let u = s.sub l in
-    let aside = prop s k (halt (mark s m u) (stackFull s st)) (s.subs u) (w ∷ st) in
+    let aside = prop s k (halt (mark s m u) (stack_full s st)) (s.subs u) (w ∷ st) in
     let down : Marks = elim (several (s.subs u)) [ true ↦ aside | false ↦ prop s k (mark s m u) (s.subs u ++ w) st ] in
-    let unless-unclean : Marks = elim (m.fl u).mutable [ true ↦ down | false ↦ prop s k (mark s m u) w st ] in
-    let unless-recursing : Marks = elim (unclean (m.fl u)) [ true ↦ prop s k m w st | false ↦ unless-unclean ] in
-    elim (recursing (m.fl u)) [ true ↦ halt m true | false ↦ unless-recursing ]
+    let unless_unclean : Marks = elim (m.fl u).mutable [ true ↦ down | false ↦ prop s k (mark s m u) w st ] in
+    let unless_recursing : Marks = elim (unclean (m.fl u)) [ true ↦ prop s k m w st | false ↦ unless_unclean ] in
+    elim (recursing (m.fl u)) [ true ↦ halt m true | false ↦ unless_recursing ]
 
 -- each link is visited at most once, and puts at most one list aside
 abbrev pub turns : St → ℕ
 turns s = suc (s.room.slots + s.room.slots)
 
 abbrev pub propagate : St → ℕ → St
-propagate s d = withMarks s (prop s (turns s) (marksOf s) (s.subs d) [])
+propagate s d = with_marks s (prop s (turns s) (marks_of s) (s.subs d) [])
 
 -- ---- shallow propagate
 -- the pending subscribers are dirty
 unfoldable pub soil : (ℕ → ℕ) → List ℕ → (ℕ → Named) → ℕ → Named
 soil sub [] f = f
-soil sub (l ∷ ls) f = soil sub ls (elim ((f (sub l)).pending && not (f (sub l)).dirty) [ true ↦ up f (sub l) (withDirty (f (sub l)) true) | false ↦ f ])
+soil sub (l ∷ ls) f = soil sub ls (elim ((f (sub l)).pending && not (f (sub l)).dirty) [ true ↦ up f (sub l) (with_dirty (f (sub l)) true) | false ↦ f ])
 
 -- one of them watches and would have to be notified: this never happens
 unfoldable pub wakes : (ℕ → ℕ) → List ℕ → (ℕ → Named) → Bool
@@ -94,4 +94,4 @@ wakes sub (l ∷ ls) f =
     (g.pending && (not g.dirty && (g.watching && not g.recursed_check))) || wakes sub ls f
 
 abbrev pub shallow : St → ℕ → St
-shallow s d = withStuck (withFl s (soil s.sub (s.subs d) s.fl)) (s.stuck || wakes s.sub (s.subs d) s.fl)
+shallow s d = with_stuck (with_fl s (soil s.sub (s.subs d) s.fl)) (s.stuck || wakes s.sub (s.subs d) s.fl)

@@ -4,17 +4,17 @@ use Rattle.std.proofs.Math.Option.{Option, none, some}
 use Rattle.values.specs.Values.{value}
 use Rattle.trees.specs.Trees.{Tree, constant}
 use Rattle.meaning.specs.State.{St, Room, Kind, signal, computed, effect, scope, f0, f1, f6, nothing}
-use Rattle.meaning.specs.Setters.{withQueue, setFl, setGone}
-use Rattle.meaning.specs.Reserve.{reserveOf, reserve}
+use Rattle.meaning.specs.Setters.{with_queue, set_fl, set_gone}
+use Rattle.meaning.specs.Reserve.{reserve_of, reserve}
 use Rattle.meaning.specs.Links.{link, cut, rewind}
 use Rattle.meaning.specs.Engine.{run, node}
-use Rattle.meaning.specs.Words.{Command, makeSignal, makeComputed, makeEffect, makeScope, set_to, addTo, read_of, disposeOf, batchStart, batchEnd, ownerOf, formulaOf}
-use Rattle.meaning.specs.Refusals.{asksOf, treeIn}
+use Rattle.meaning.specs.Words.{Command, make_signal, make_computed, make_effect, make_scope, set_to, add_to, read_of, dispose_of, batch_start, batch_end, owner_of, formula_of}
+use Rattle.meaning.specs.Refusals.{asks_of, tree_in}
 
 unfoldable pub flushing : ℕ → St → List ℕ → St
 flushing zero s q = s
 flushing (suc k) s [] = s
-flushing (suc k) s (e ∷ q) = flushing k (run (withQueue s q) e) q
+flushing (suc k) s (e ∷ q) = flushing k (run (with_queue s q) e) q
 
 -- ---- every moment
 -- what links and reserve are read off
@@ -35,7 +35,7 @@ held s = record { room = s.room; size = s.size; kind = s.kind; form = s.form; ow
 pub data Step (s : St) : St → Type 0 where
   unlinks : (l : ℕ) → s.live l ≡ true → Step s (cut s l)
   links : (d u v : ℕ) → Step s (link s d u v)
-  marks-gone : (x : ℕ) → Step s (setGone (setFl (rewind s x) x f0) x true)
+  marks_gone : (x : ℕ) → Step s (set_gone (set_fl (rewind s x) x f0) x true)
   others : (t : St) → held t ≡ held s → (s.stuck ≡ true → t.stuck ≡ true) → Step s t
 
 pub data Steps (s : St) : St → Type 0 where
@@ -49,21 +49,21 @@ pub record Moment (s t x : St) : Type 0 where
 
 -- where the steps of a command begin: the node that it makes is there, without links
 abbrev pub begun : St → Command → St
-begun s (makeSignal v) = node s signal (constant (pos 0)) none f1 (value v)
-begun s (makeComputed cs) = node s computed (formulaOf cs) none f0 nothing
-begun s (makeEffect o cs) = node s effect (formulaOf cs) (ownerOf o) f6 nothing
-begun s (makeScope o) = node s scope (constant (pos 0)) (ownerOf o) f0 nothing
+begun s (make_signal v) = node s signal (constant (pos 0)) none f1 (value v)
+begun s (make_computed cs) = node s computed (formula_of cs) none f0 nothing
+begun s (make_effect o cs) = node s effect (formula_of cs) (owner_of o) f6 nothing
+begun s (make_scope o) = node s scope (constant (pos 0)) (owner_of o) f0 nothing
 begun s (set_to n v) = s
-begun s (addTo n d) = s
+begun s (add_to n d) = s
 begun s (read_of n) = s
-begun s (disposeOf n) = s
-begun s batchStart = s
-begun s batchEnd = s
+begun s (dispose_of n) = s
+begun s batch_start = s
+begun s batch_end = s
 
 -- the reserve at entry, with the node that the command makes
 abbrev pub wanted : Option Kind → Tree → Option ℕ → ℕ
 wanted none t o = 0
-wanted (some k) t o = reserveOf k false t o
+wanted (some k) t o = reserve_of k false t o
 
-abbrev pub reserveFrom : St → Command → ℕ
-reserveFrom s c = reserve s + wanted (asksOf c).makes (treeIn (asksOf c).cells) (ownerOf (asksOf c).owner)
+abbrev pub reserve_from : St → Command → ℕ
+reserve_from s c = reserve s + wanted (asks_of c).makes (tree_in (asks_of c).cells) (owner_of (asks_of c).owner)

@@ -4,7 +4,7 @@ use Rattle.std.proofs.Math.Option.{Option, none, some}
 use Rattle.flags.specs.declared.Named.{Named}
 use Rattle.values.specs.declared.Value.{Value}
 use Rattle.meaning.specs.State.{St, Kind, signal, computed, effect, scope, Room, deps, has_value, empty}
-use Rattle.meaning.specs.Cases.{Told, answers, afterAll}
+use Rattle.meaning.specs.Cases.{Told, answers, after_all}
 
 abbrev pub bit : Bool → ℕ → ℕ
 bit true k = k
@@ -13,30 +13,30 @@ bit false k = 0
 abbrev pub byte : Named → ℕ
 byte f = bit f.mutable 1 + bit f.watching 2 + bit f.recursed_check 4 + bit f.recursed 8 + bit f.dirty 16 + bit f.pending 32
 
-unfoldable pub depEnds : St → List ℕ → List (ℕ × ℕ)
-depEnds s [] = []
-depEnds s (l ∷ ls) = (s.dep l, s.ver l) ∷ depEnds s ls
+unfoldable pub dep_ends : St → List ℕ → List (ℕ × ℕ)
+dep_ends s [] = []
+dep_ends s (l ∷ ls) = (s.dep l, s.ver l) ∷ dep_ends s ls
 
-unfoldable pub subEnds : St → List ℕ → List (ℕ × ℕ)
-subEnds s [] = []
-subEnds s (l ∷ ls) = (s.sub l, s.ver l) ∷ subEnds s ls
+unfoldable pub sub_ends : St → List ℕ → List (ℕ × ℕ)
+sub_ends s [] = []
+sub_ends s (l ∷ ls) = (s.sub l, s.ver l) ∷ sub_ends s ls
 
 -- the value of a signal or of an evaluated computed
-abbrev pub shownValue : Kind → Named → Value → Option Value
-shownValue k f v = elim (has_value k f) [ true ↦ some v | false ↦ none ]
+abbrev pub shown_value : Kind → Named → Value → Option Value
+shown_value k f v = elim (has_value k f) [ true ↦ some v | false ↦ none ]
 
-abbrev pub shownPending : Kind → Value → Option Value
-shownPending signal v = some v
-shownPending computed v = none
-shownPending effect v = none
-shownPending scope v = none
+abbrev pub shown_pending : Kind → Value → Option Value
+shown_pending signal v = some v
+shown_pending computed v = none
+shown_pending effect v = none
+shown_pending scope v = none
 
 -- flags, value, pending value, dependencies and subscribers with the versions of their links
 abbrev pub Line : Type 0
 Line = ℕ × Option Value × Option Value × List (ℕ × ℕ) × List (ℕ × ℕ)
 
 abbrev pub line : St → ℕ → Line
-line s n = (byte (s.fl n), shownValue (s.kind n) (s.fl n) (s.sto n), shownPending (s.kind n) (s.pend n), depEnds s (deps s n), subEnds s (s.subs n))
+line s n = (byte (s.fl n), shown_value (s.kind n) (s.fl n) (s.sto n), shown_pending (s.kind n) (s.pend n), dep_ends s (deps s n), sub_ends s (s.subs n))
 
 unfoldable pub lines : ℕ → St → List Line → List Line
 lines zero s rest = rest
@@ -62,4 +62,4 @@ script n l c r ws t a = record { room = record { nodes = n; slots = l; cells = c
 unfoldable pub Played : List Script → Type 0
 Played [] = Unit {0}
 Played (p ∷ ps) =
-    (answers (empty p.room) p.rows p.words ≡ p.told) × (left (afterAll (empty p.room) p.rows p.words) ≡ p.leaves) × Played ps
+    (answers (empty p.room) p.rows p.words ≡ p.told) × (left (after_all (empty p.room) p.rows p.words) ≡ p.leaves) × Played ps

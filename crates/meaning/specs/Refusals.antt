@@ -3,13 +3,13 @@ use Rattle.std.specs.Prelude.{Bool, true, false, not, ◌&&◌, ◌||◌, List, 
 use Rattle.std.proofs.Math.Option.{Option, none, some}
 use Rattle.lists.specs.Sum.{bit, count}
 use Rattle.trees.specs.Trees.{Tree, constant, names}
-pub use Rattle.trees.specs.Names.{mostHeight}
+pub use Rattle.trees.specs.Names.{most_height}
 use Rattle.meaning.specs.State.{St, Kind, signal, computed, effect, scope, Room, readable}
-pub use Rattle.meaning.specs.State.{on, aSignal}
-use Rattle.meaning.specs.Reserve.{reserveOf, reserve}
-use Rattle.meaning.specs.Marks.{isEffect}
-use Rattle.meaning.specs.Engine.{levelOf, cells_of}
-use Rattle.meaning.specs.Words.{Command, makeSignal, makeComputed, makeEffect, makeScope, set_to, addTo, read_of, disposeOf, batchStart, batchEnd, commandOf, ownerOf, tree_of, formulaOf}
+pub use Rattle.meaning.specs.State.{on, a_signal}
+use Rattle.meaning.specs.Reserve.{reserve_of, reserve}
+use Rattle.meaning.specs.Marks.{is_effect}
+use Rattle.meaning.specs.Engine.{level_of, cells_of}
+use Rattle.meaning.specs.Words.{Command, make_signal, make_computed, make_effect, make_scope, set_to, add_to, read_of, dispose_of, batch_start, batch_end, command_of, owner_of, tree_of, formula_of}
 
 -- ---- what the refusals see
 pub record Sight : Type 0 where
@@ -24,21 +24,21 @@ pub record Sight : Type 0 where
   pub effects : ℕ  -- live ones
   pub depth : ℕ
 
-unfoldable pub liveEffects : St → ℕ
-liveEffects s = count (λ n. isEffect (s.kind n) && not (s.gone n)) s.size
+unfoldable pub live_effects : St → ℕ
+live_effects s = count (λ n. is_effect (s.kind n) && not (s.gone n)) s.size
 
 abbrev pub sight_of : St → ℕ → Sight
-sight_of s rows = record { room = s.room; rows = rows; count = s.size; kind = s.kind; gone = s.gone; level = s.level; used = s.used; reserved = reserve s; effects = liveEffects s; depth = s.depth }
+sight_of s rows = record { room = s.room; rows = rows; count = s.size; kind = s.kind; gone = s.gone; level = s.level; used = s.used; reserved = reserve s; effects = live_effects s; depth = s.depth }
 
 -- ---- the limits
-abbrev pub mostOwnerDepth : ℕ
-mostOwnerDepth = 16
+abbrev pub most_owner_depth : ℕ
+most_owner_depth = 16
 
-abbrev pub mostDepth : ℕ
-mostDepth = 64
+abbrev pub most_depth : ℕ
+most_depth = 64
 
-abbrev pub mostLevel : Kind → ℕ
-mostLevel k = elim k [ signal ↦ 0 | computed ↦ mostHeight | effect ↦ mostOwnerDepth | scope ↦ mostOwnerDepth ]
+abbrev pub most_level : Kind → ℕ
+most_level k = elim k [ signal ↦ 0 | computed ↦ most_height | effect ↦ most_owner_depth | scope ↦ most_owner_depth ]
 
 -- ---- what a command asks
 pub record Asks : Type 0 where
@@ -52,35 +52,35 @@ pub record Asks : Type 0 where
   pub rows : Sight → ℕ  -- the log rows that it wants
 
 -- effects and scopes can be disposed, and own
-abbrev pub anOwner : Kind → Bool
-anOwner k = not (readable k)
+abbrev pub an_owner : Kind → Bool
+an_owner k = not (readable k)
 
 -- as many rows as effects are live, where the depth is such that a flush follows
-abbrev pub flushRows : Sight → ℕ → ℕ
-flushRows v d = elim (eqb v.depth d) [ true ↦ v.effects | false ↦ 0 ]
+abbrev pub flush_rows : Sight → ℕ → ℕ
+flush_rows v d = elim (eqb v.depth d) [ true ↦ v.effects | false ↦ 0 ]
 
-abbrev pub names-it : ℤ → (Kind → Bool) → Bool → (Sight → ℕ) → Asks
-names-it n p d w = record { node = some n; takes = p; ends = d; makes = none; owner = negsuc 0; cells = none; barred = λ d. false; rows = w }
+abbrev pub names_it : ℤ → (Kind → Bool) → Bool → (Sight → ℕ) → Asks
+names_it n p d w = record { node = some n; takes = p; ends = d; makes = none; owner = negsuc 0; cells = none; barred = λ d. false; rows = w }
 
 -- a new effect wants 1 row
-abbrev pub makes-it : Kind → ℤ → Option (List ℤ) → Asks
-makes-it k o cs = record { node = none; takes = readable; ends = false; makes = some k; owner = o; cells = cs; barred = λ d. false; rows = λ v. bit (isEffect k) }
+abbrev pub makes_it : Kind → ℤ → Option (List ℤ) → Asks
+makes_it k o cs = record { node = none; takes = readable; ends = false; makes = some k; owner = o; cells = cs; barred = λ d. false; rows = λ v. bit (is_effect k) }
 
 abbrev pub batches : (ℕ → Bool) → (Sight → ℕ) → Asks
 batches b w = record { node = none; takes = readable; ends = false; makes = none; owner = negsuc 0; cells = none; barred = b; rows = w }
 
 -- set and add: signals; read: signals and computeds; dispose and owner: effects and scopes
-unfoldable pub asksOf : Command → Asks
-asksOf (makeSignal k) = makes-it signal (negsuc 0) none
-asksOf (makeComputed cs) = makes-it computed (negsuc 0) (some cs)
-asksOf (makeEffect o cs) = makes-it effect o (some cs)
-asksOf (makeScope o) = makes-it scope o none
-asksOf (set_to n k) = names-it n aSignal false (λ v. flushRows v 0)
-asksOf (addTo n k) = names-it n aSignal false (λ v. flushRows v 0)
-asksOf (read_of n) = names-it n readable false (λ v. 0)
-asksOf (disposeOf n) = names-it n anOwner true (λ v. 0)
-asksOf batchStart = batches (λ d. leb mostDepth d) (λ v. 0)
-asksOf batchEnd = batches (λ d. eqb d 0) (λ v. flushRows v 1)
+unfoldable pub asks_of : Command → Asks
+asks_of (make_signal k) = makes_it signal (negsuc 0) none
+asks_of (make_computed cs) = makes_it computed (negsuc 0) (some cs)
+asks_of (make_effect o cs) = makes_it effect o (some cs)
+asks_of (make_scope o) = makes_it scope o none
+asks_of (set_to n k) = names_it n a_signal false (λ v. flush_rows v 0)
+asks_of (add_to n k) = names_it n a_signal false (λ v. flush_rows v 0)
+asks_of (read_of n) = names_it n readable false (λ v. 0)
+asks_of (dispose_of n) = names_it n an_owner true (λ v. 0)
+asks_of batch_start = batches (λ d. leb most_depth d) (λ v. 0)
+asks_of batch_end = batches (λ d. eqb d 0) (λ v. flush_rows v 1)
 
 -- ---- the rows of the table
 -- 2: unknown command code or wrong word count
@@ -92,64 +92,64 @@ unfoldable pub is_a : Sight → (Kind → Bool) → ℤ → Bool
 is_a v p (pos n) = elim (ltb n v.count) [ true ↦ p (v.kind n) | false ↦ false ]
 is_a v p (negsuc n) = false
 
-abbrev pub wrongOwner : Sight → ℤ → Bool
-wrongOwner v (pos n) = not (is_a v anOwner (pos n))
-wrongOwner v (negsuc zero) = false
-wrongOwner v (negsuc (suc n)) = true
+abbrev pub wrong_owner : Sight → ℤ → Bool
+wrong_owner v (pos n) = not (is_a v an_owner (pos n))
+wrong_owner v (negsuc zero) = false
+wrong_owner v (negsuc (suc n)) = true
 
 -- 3: node or owner number unknown, or of a kind the command doesn't take
-unfoldable pub wrongNode : Sight → Command → Bool
-wrongNode v c = on (asksOf c).node (λ n. not (is_a v (asksOf c).takes n)) || wrongOwner v (asksOf c).owner
+unfoldable pub wrong_node : Sight → Command → Bool
+wrong_node v c = on (asks_of c).node (λ n. not (is_a v (asks_of c).takes n)) || wrong_owner v (asks_of c).owner
 
-abbrev pub isGone : Sight → ℤ → Bool
-isGone v (pos n) = v.gone n
-isGone v (negsuc n) = false
+abbrev pub is_gone : Sight → ℤ → Bool
+is_gone v (pos n) = v.gone n
+is_gone v (negsuc n) = false
 
 -- 4: the node to dispose, or the owner, is gone
-unfoldable pub goneNode : Sight → Command → Bool
-goneNode v c = ((asksOf c).ends && on (asksOf c).node (isGone v)) || isGone v (asksOf c).owner
+unfoldable pub gone_node : Sight → Command → Bool
+gone_node v c = ((asks_of c).ends && on (asks_of c).node (is_gone v)) || is_gone v (asks_of c).owner
 
-unfoldable pub allReadable : Sight → List ℕ → Bool
-allReadable v [] = true
-allReadable v (n ∷ ns) = is_a v readable (pos n) && allReadable v ns
+unfoldable pub all_readable : Sight → List ℕ → Bool
+all_readable v [] = true
+all_readable v (n ∷ ns) = is_a v readable (pos n) && all_readable v ns
 
 -- one expression within the limits, and each read names an existing signal or computed
-abbrev pub legalCells : Sight → List ℤ → Bool
-legalCells v cs = on (tree_of cs) (λ t. allReadable v (names t))
+abbrev pub legal_cells : Sight → List ℤ → Bool
+legal_cells v cs = on (tree_of cs) (λ t. all_readable v (names t))
 
 -- 5: the formula breaks a rule
-unfoldable pub badFormula : Sight → Command → Bool
-badFormula v c = on (asksOf c).cells (λ cs. not (legalCells v cs))
+unfoldable pub bad_formula : Sight → Command → Bool
+bad_formula v c = on (asks_of c).cells (λ cs. not (legal_cells v cs))
 
 -- the new node's formula
-abbrev pub treeIn : Option (List ℤ) → Tree
-treeIn o = elim o [ none ↦ constant (pos 0) | some cs ↦ formulaOf cs ]
+abbrev pub tree_in : Option (List ℤ) → Tree
+tree_in o = elim o [ none ↦ constant (pos 0) | some cs ↦ formula_of cs ]
 
 -- 6: computed of height over 64, or owner depth over 16
-unfoldable pub tooHigh : Sight → Command → Bool
-tooHigh v c = on (asksOf c).makes (λ k. ltb (mostLevel k) (levelOf v.level k (treeIn (asksOf c).cells) (ownerOf (asksOf c).owner)))
+unfoldable pub too_high : Sight → Command → Bool
+too_high v c = on (asks_of c).makes (λ k. ltb (most_level k) (level_of v.level k (tree_in (asks_of c).cells) (owner_of (asks_of c).owner)))
 
 abbrev pub full : Sight → Option Kind → Tree → Option ℕ → Bool
 full v m t o =
-    on m (λ k. leb v.room.nodes v.count || (ltb v.room.cells (v.used + cells_of k t) || ltb v.room.slots (v.reserved + reserveOf k false t o)))
+    on m (λ k. leb v.room.nodes v.count || (ltb v.room.cells (v.used + cells_of k t) || ltb v.room.slots (v.reserved + reserve_of k false t o)))
 
 -- 7: node table full, too few cells left, or the reserve would exceed the link slots
-unfoldable pub noRoom : Sight → Command → Bool
-noRoom v c = full v (asksOf c).makes (treeIn (asksOf c).cells) (ownerOf (asksOf c).owner)
+unfoldable pub no_room : Sight → Command → Bool
+no_room v c = full v (asks_of c).makes (tree_in (asks_of c).cells) (owner_of (asks_of c).owner)
 
 -- 8: end at depth 0, or start at depth 64
-unfoldable pub wrongDepth : Sight → Command → Bool
-wrongDepth v c = (asksOf c).barred v.depth
+unfoldable pub wrong_depth : Sight → Command → Bool
+wrong_depth v c = (asks_of c).barred v.depth
 
 -- 9: too few log rows
-unfoldable pub fewRows : Sight → Command → Bool
-fewRows v c = ltb v.rows ((asksOf c).rows v)
+unfoldable pub few_rows : Sight → Command → Bool
+few_rows v c = ltb v.rows ((asks_of c).rows v)
 
 -- ---- the table
 -- well: the lent tables are well formed
 unfoldable pub table : Bool → Sight → Option Command → List Bool
 table well v c =
-    not well ∷ unknown c ∷ on c (wrongNode v) ∷ on c (goneNode v) ∷ on c (badFormula v) ∷ on c (tooHigh v) ∷ on c (noRoom v) ∷ on c (wrongDepth v) ∷ on c (fewRows v) ∷ []
+    not well ∷ unknown c ∷ on c (wrong_node v) ∷ on c (gone_node v) ∷ on c (bad_formula v) ∷ on c (too_high v) ∷ on c (no_room v) ∷ on c (wrong_depth v) ∷ on c (few_rows v) ∷ []
 
 -- the number of the first row that holds, counted from n; 0 if none does
 unfoldable pub first : ℕ → List Bool → ℕ
@@ -157,4 +157,4 @@ first n [] = 0
 first n (b ∷ bs) = elim b [ true ↦ n | false ↦ first (suc n) bs ]
 
 unfoldable pub refusal : Bool → Sight → List ℤ → ℕ
-refusal well v ws = first 1 (table well v (commandOf ws))
+refusal well v ws = first 1 (table well v (command_of ws))

@@ -7,23 +7,23 @@ use Rattle.trees.specs.Trees.{Tree, names}
 use Rattle.meaning.specs.State.{St, Kind, signal, computed, effect, scope}
 
 -- an owned node counts 1 more
-abbrev pub ownedLink : Option ℕ → ℕ
-ownedLink o = elim o [ none ↦ 0 | some p ↦ 1 ]
+abbrev pub owned_link : Option ℕ → ℕ
+owned_link o = elim o [ none ↦ 0 | some p ↦ 1 ]
 
 -- twice the number of read cells: on a rerun old links stay until the purge
-abbrev pub reserveFor : Tree → Option ℕ → ℕ
-reserveFor t o = 2 * length (names t) + ownedLink o
+abbrev pub reserve_for : Tree → Option ℕ → ℕ
+reserve_for t o = 2 * length (names t) + owned_link o
 
 -- a gone node counts nothing
-abbrev pub unlessGone : Bool → ℕ → ℕ
-unlessGone g k = elim g [ true ↦ 0 | false ↦ k ]
+abbrev pub unless_gone : Bool → ℕ → ℕ
+unless_gone g k = elim g [ true ↦ 0 | false ↦ k ]
 
-abbrev pub reserveOf : Kind → Bool → Tree → Option ℕ → ℕ
-reserveOf k g t o = elim k [ signal ↦ 0 | computed ↦ reserveFor t none | effect ↦ unlessGone g (reserveFor t o) | scope ↦ unlessGone g (ownedLink o) ]
+abbrev pub reserve_of : Kind → Bool → Tree → Option ℕ → ℕ
+reserve_of k g t o = elim k [ signal ↦ 0 | computed ↦ reserve_for t none | effect ↦ unless_gone g (reserve_for t o) | scope ↦ unless_gone g (owned_link o) ]
 
 unfoldable pub reserve : St → ℕ
-reserve s = total (λ n. reserveOf (s.kind n) (s.gone n) (s.form n) (s.owner n)) s.size
+reserve s = total (λ n. reserve_of (s.kind n) (s.gone n) (s.form n) (s.owner n)) s.size
 
 -- the number of live links
-abbrev pub liveLinks : St → ℕ
-liveLinks s = count s.live s.room.slots
+abbrev pub live_links : St → ℕ
+live_links s = count s.live s.room.slots

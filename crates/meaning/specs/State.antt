@@ -6,7 +6,7 @@ use Rattle.flags.specs.declared.Named.{Named}
 use Rattle.values.specs.declared.Value.{Value}
 use Rattle.values.specs.Values.{value}
 use Rattle.trees.specs.Trees.{Tree, constant}
-pub use Rattle.meaning.specs.Flags.{f0, f1, f2, f5, f6, f17, f32, f33, f48, f49, withPending, withDirty, withWatching}
+pub use Rattle.meaning.specs.Flags.{f0, f1, f2, f5, f6, f17, f32, f33, f48, f49, with_pending, with_dirty, with_watching}
 
 pub data Kind : Type 0 where
   signal computed effect scope : Kind
@@ -15,8 +15,8 @@ pub data Kind : Type 0 where
 abbrev pub readable : Kind → Bool
 readable k = elim k [ signal ↦ true | computed ↦ true | effect ↦ false | scope ↦ false ]
 
-abbrev pub aSignal : Kind → Bool
-aSignal k = elim k [ signal ↦ true | computed ↦ false | effect ↦ false | scope ↦ false ]
+abbrev pub a_signal : Kind → Bool
+a_signal k = elim k [ signal ↦ true | computed ↦ false | effect ↦ false | scope ↦ false ]
 
 -- the place of a node in the order of dependency: today its number
 abbrev pub rank : ℕ → ℕ

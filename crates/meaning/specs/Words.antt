@@ -5,20 +5,20 @@ use Rattle.trees.specs.declared.cells.Cell.{Cell}
 use Rattle.trees.specs.declared.cells.Cell.TheVariants.{Constant, Read, Two, Choose, Bad}
 use Rattle.trees.specs.Cells.{cell_of}
 use Rattle.trees.specs.Trees.{Tree, constant, read, two, choose}
-use Rattle.trees.specs.Legal.{mostCells, mostNesting}
+use Rattle.trees.specs.Legal.{most_cells, most_nesting}
 
 -- the ten commands, in the order of their codes; numbers of nodes and owners as they were given
 pub data Command : Type 0 where
-  makeSignal : ℤ → Command
-  makeComputed : List ℤ → Command
-  makeEffect : ℤ → List ℤ → Command
-  makeScope : ℤ → Command
+  make_signal : ℤ → Command
+  make_computed : List ℤ → Command
+  make_effect : ℤ → List ℤ → Command
+  make_scope : ℤ → Command
   set_to : ℤ → ℤ → Command
-  addTo : ℤ → ℤ → Command
+  add_to : ℤ → ℤ → Command
   read_of : ℤ → Command
-  disposeOf : ℤ → Command
-  batchStart : Command
-  batchEnd : Command
+  dispose_of : ℤ → Command
+  batch_start : Command
+  batch_end : Command
 
 -- ---- the words that follow the code
 -- one more, and so on
@@ -31,37 +31,37 @@ unfoldable pub no_word : {A : Type 0} → A → List ℤ → Option A
 no_word c [] = some c
 no_word c (x ∷ ws) = none
 
-unfoldable pub wholeCells : (List ℤ → Command) → List ℤ → Option Command
-wholeCells c ws = elim (eqb (length ws % 2) 0) [ true ↦ some (c ws) | false ↦ none ]
+unfoldable pub whole_cells : (List ℤ → Command) → List ℤ → Option Command
+whole_cells c ws = elim (eqb (length ws % 2) 0) [ true ↦ some (c ws) | false ↦ none ]
 
 unfoldable pub codes : ℕ → List ℤ → Option Command
 codes c ws =
-    cond (eqb c 1) (word (λ v. no_word (makeSignal v)) ws)
-    (cond (eqb c 2) (wholeCells makeComputed ws)
-    (cond (eqb c 3) (word (λ o. wholeCells (makeEffect o)) ws)
-    (cond (eqb c 4) (word (λ o. no_word (makeScope o)) ws)
+    cond (eqb c 1) (word (λ v. no_word (make_signal v)) ws)
+    (cond (eqb c 2) (whole_cells make_computed ws)
+    (cond (eqb c 3) (word (λ o. whole_cells (make_effect o)) ws)
+    (cond (eqb c 4) (word (λ o. no_word (make_scope o)) ws)
     (cond (eqb c 5) (word (λ n. word (λ v. no_word (set_to n v))) ws)
-    (cond (eqb c 6) (word (λ n. word (λ d. no_word (addTo n d))) ws)
+    (cond (eqb c 6) (word (λ n. word (λ d. no_word (add_to n d))) ws)
     (cond (eqb c 7) (word (λ n. no_word (read_of n)) ws)
-    (cond (eqb c 8) (word (λ n. no_word (disposeOf n)) ws)
-    (cond (eqb c 9) (no_word batchStart ws)
-    (cond (eqb c 10) (no_word batchEnd ws) none)))))))))
+    (cond (eqb c 8) (word (λ n. no_word (dispose_of n)) ws)
+    (cond (eqb c 9) (no_word batch_start ws)
+    (cond (eqb c 10) (no_word batch_end ws) none)))))))))
 
 -- the command, if the code is known and the word count right
-unfoldable pub commandOf : List ℤ → Option Command
-commandOf [] = none
-commandOf (pos c ∷ ws) = codes c ws
-commandOf (negsuc c ∷ ws) = none
+unfoldable pub command_of : List ℤ → Option Command
+command_of [] = none
+command_of (pos c ∷ ws) = codes c ws
+command_of (negsuc c ∷ ws) = none
 
 -- the node of a number that is known to be one
-abbrev pub nodeOf : ℤ → ℕ
-nodeOf (pos n) = n
-nodeOf (negsuc n) = 0
+abbrev pub node_of : ℤ → ℕ
+node_of (pos n) = n
+node_of (negsuc n) = 0
 
 -- -1 as owner means none
-abbrev pub ownerOf : ℤ → Option ℕ
-ownerOf (pos n) = some n
-ownerOf (negsuc n) = none
+abbrev pub owner_of : ℤ → Option ℕ
+owner_of (pos n) = some n
+owner_of (negsuc n) = none
 
 -- ---- formulas
 -- a tree, and the words after it
@@ -87,8 +87,8 @@ parse (suc k) ws = word (λ c. word (λ o. grown (parse k) (cell_of c o))) ws
 
 -- 1 to 64 cells, exactly one expression, nesting at most 16
 unfoldable pub tree_of : List ℤ → Option Tree
-tree_of ws = elim (leb (length ws / 2) mostCells) [ true ↦ after (parse mostNesting ws) no_word | false ↦ none ]
+tree_of ws = elim (leb (length ws / 2) most_cells) [ true ↦ after (parse most_nesting ws) no_word | false ↦ none ]
 
 -- the formula of cells that are known to be one
-abbrev pub formulaOf : List ℤ → Tree
-formulaOf ws = get_or (tree_of ws) (constant (pos 0))
+abbrev pub formula_of : List ℤ → Tree
+formula_of ws = get_or (tree_of ws) (constant (pos 0))

@@ -11,17 +11,17 @@ use lib.ListN.{length, get_or, set, drop, drop_of_length-le}
 use lib.Seq.{drop-cons}
 use borrow.Author.Tests.{lt-ltb, le-ltb, lt-leb, le-leb, ltb-true, ltb-false, leb-true, leb-false}
 use Rattle.values.specs.declared.Value.{Value}
-use Rattle.primitive.specs.Words.{COUNT, USED, nodeRows}
+use Rattle.primitive.specs.Words.{COUNT, USED, node_rows}
 use Rattle.reading.specs.Tables.{State, state}
 use Rattle.operating.specs.declared.making.Sort.{Sort}
-use Rattle.operating.specs.Making.{hasRoom, described, valued, laid, made, make}
+use Rattle.operating.specs.Making.{has_room, described, valued, laid, made, make}
 
 -- ---- room
-pub no_node : (N : List ℕ) (c : List ℤ) (k : ℕ) {n : ℕ} → n ≡ get_or N COUNT 0 → nodeRows N ≤ suc n → false ≡ hasRoom N c k
-unfolding hasRoom
+pub no_node : (N : List ℕ) (c : List ℤ) (k : ℕ) {n : ℕ} → n ≡ get_or N COUNT 0 → node_rows N ≤ suc n → false ≡ has_room N c k
+unfolding has_room
 no_node N c k e h =
-    let z : nodeRows N ≤ suc (get_or N COUNT 0) = omega arith in
-    rw (le-ltb _ _ z, hasRoom)
+    let z : node_rows N ≤ suc (get_or N COUNT 0) = omega arith in
+    rw (le-ltb _ _ z, has_room)
 
 same_test : (u k r : ℕ) → k ≤ r → leb u (r - k) ≡ leb (u + k) r
 same_test u k r h = go (leb (u + k) r) refl
@@ -30,19 +30,19 @@ same_test u k r h = go (leb (u + k) r) refl
     go true e = le-leb u (r - k) (omega (arith, leb-true (u + k) r e)) ∙ sym e
     go false e = lt-leb u (r - k) (omega (arith, leb-false (u + k) r e)) ∙ sym e
 
-module _ (N : List ℕ) (c : List ℤ) (k : ℕ) {n : ℕ} (e : n ≡ get_or N COUNT 0) (h : suc n < nodeRows N) where
-  pub no_cells : length c / 2 < k → false ≡ hasRoom N c k
-  unfolding hasRoom
+module _ (N : List ℕ) (c : List ℤ) (k : ℕ) {n : ℕ} (e : n ≡ get_or N COUNT 0) (h : suc n < node_rows N) where
+  pub no_cells : length c / 2 < k → false ≡ has_room N c k
+  unfolding has_room
   no_cells g =
-      let z : suc (get_or N COUNT 0) < nodeRows N = omega arith in
+      let z : suc (get_or N COUNT 0) < node_rows N = omega arith in
       let w : length c / 2 < get_or N USED 0 + k = omega arith in
-      rw (lt-ltb _ _ z, lt-leb _ _ w, hasRoom)
+      rw (lt-ltb _ _ z, lt-leb _ _ w, has_room)
 
-  pub some-cells : {u : ℕ} → u ≡ get_or N USED 0 → k ≤ length c / 2 → leb u (length c / 2 - k) ≡ hasRoom N c k
-  unfolding hasRoom
-  some-cells q g =
-      let z : suc (get_or N COUNT 0) < nodeRows N = omega arith in
-      rw (lt-ltb _ _ z, hasRoom, q) (same_test (get_or N USED 0) k (length c / 2) g)
+  pub some_cells : {u : ℕ} → u ≡ get_or N USED 0 → k ≤ length c / 2 → leb u (length c / 2 - k) ≡ has_room N c k
+  unfolding has_room
+  some_cells q g =
+      let z : suc (get_or N COUNT 0) < node_rows N = omega arith in
+      rw (lt-ltb _ _ z, has_room, q) (same_test (get_or N USED 0) k (length c / 2) g)
 
 and_left : (a b : Bool) → (a && b) ≡ true → a ≡ true
 and_left true b e = refl
@@ -53,14 +53,14 @@ and_right true b e = e
 and_right false true e = refl
 and_right false false e = e
 
-module _ (N : List ℕ) (c : List ℤ) (k : ℕ) (h : hasRoom N c k ≡ true) where
-  pub room-node : suc (get_or N COUNT 0) < nodeRows N
-  unfolding hasRoom
-  room-node = ltb-true _ _ (and_left (ltb (suc (get_or N COUNT 0)) (nodeRows N)) (leb (get_or N USED 0 + k) (length c / 2)) h)
+module _ (N : List ℕ) (c : List ℤ) (k : ℕ) (h : has_room N c k ≡ true) where
+  pub room_node : suc (get_or N COUNT 0) < node_rows N
+  unfolding has_room
+  room_node = ltb-true _ _ (and_left (ltb (suc (get_or N COUNT 0)) (node_rows N)) (leb (get_or N USED 0 + k) (length c / 2)) h)
 
-  pub room-cells : get_or N USED 0 + k ≤ length c / 2
-  unfolding hasRoom
-  room-cells = leb-true _ _ (and_right (ltb (suc (get_or N COUNT 0)) (nodeRows N)) (leb (get_or N USED 0 + k) (length c / 2)) h)
+  pub room_cells : get_or N USED 0 + k ≤ length c / 2
+  unfolding has_room
+  room_cells = leb-true _ _ (and_right (ltb (suc (get_or N COUNT 0)) (node_rows N)) (leb (get_or N USED 0 + k) (length c / 2)) h)
 
 -- ---- the formula
 pub lay_step : (c : List ℤ) (at i : ℕ) (ws : List ℤ) → i < length ws → laid c (at + i) (drop i ws) ≡ laid (set c (at + i) (get_or ws i (pos 0))) (at + (i + 1)) (drop (i + 1) ws)
@@ -69,8 +69,8 @@ lay_step c at i ws h =
     let e : at + (i + 1) ≡ suc (at + i) = omega arith in
     rw (e, add-one i, drop-cons ws i (pos 0), laid)
 
-pub lay-start : (c : List ℤ) (at : ℕ) (ws : List ℤ) → laid c (at + 0) (drop 0 ws) ≡ laid c at ws
-lay-start c at ws = ap (λ (i : ℕ). laid c i ws) (omega arith)
+pub lay_start : (c : List ℤ) (at : ℕ) (ws : List ℤ) → laid c (at + 0) (drop 0 ws) ≡ laid c at ws
+lay_start c at ws = ap (λ (i : ℕ). laid c i ws) (omega arith)
 
 pub lay_done : (c : List ℤ) (at i : ℕ) (ws : List ℤ) → length ws ≤ i → laid c (at + i) (drop i ws) ≡ c
 unfolding laid
@@ -84,11 +84,11 @@ module _ (N : List ℕ) (l : List ℕ) (v c : List ℤ) (k : Sort) (ws : List �
   abbrev used : ℕ
   used = get_or N USED 0
 
-  pub make-room : hasRoom N c (length ws / 2) ≡ true
+  pub make_room : has_room N c (length ws / 2) ≡ true
       → made n (state (set (set (described N n k ws) COUNT (n + 1)) USED (used + length ws / 2)) l (valued v n x)) (laid c (used * 2) ws) ≡ make (state N l v) c k ws x
   unfolding make
-  make-room h = rw (h, make, add-one n)
+  make_room h = rw (h, make, add-one n)
 
-  pub make-full : hasRoom N c (length ws / 2) ≡ false → made n (state N l v) c ≡ make (state N l v) c k ws x
+  pub make_full : has_room N c (length ws / 2) ≡ false → made n (state N l v) c ≡ make (state N l v) c k ws x
   unfolding make
-  make-full h = rw (h, make)
+  make_full h = rw (h, make)

@@ -1,7 +1,7 @@
 -- Emptying of lent tables: no nodes, all slots free, the lowest first, depth and cycle 0.
 use Rattle.std.specs.Prelude.{ℕ, zero, suc, true, false, List, ℤ, pos, length, get_or, set}
-use Rattle.primitive.specs.Words.{FREE, NEXT-DEP, setLink}
-use Rattle.counting.specs.Counts.{slotRoom, carryIn}
+use Rattle.primitive.specs.Words.{FREE, NEXT-DEP, set_link}
+use Rattle.counting.specs.Counts.{slot_room, carry_in}
 
 -- the answer, and the tables after it
 pub record Emptied : Type 0 where
@@ -25,12 +25,12 @@ blank z t = zeroed z t (length t)
 -- the first k slots go to the front of the free list, the last of them first
 unfoldable pub freed : List ℕ → ℕ → List ℕ
 freed l zero = l
-freed l (suc s) = freed (set (setLink l s NEXT-DEP (get_or l FREE 0)) FREE (suc s)) s
+freed l (suc s) = freed (set (set_link l s NEXT-DEP (get_or l FREE 0)) FREE (suc s)) s
 
 -- 1, and nothing is touched, where the lengths do not carry capacities; else 0
 unfoldable pub emptying : List ℕ → List ℕ → List ℤ → List ℤ → Emptied
 emptying n l v c =
-    elim (carryIn n l v c) [
-      | true ↦ emptied 0 (blank 0 n) (freed (blank 0 l) (slotRoom l)) (blank (pos 0) v) (blank (pos 0) c)
+    elim (carry_in n l v c) [
+      | true ↦ emptied 0 (blank 0 n) (freed (blank 0 l) (slot_room l)) (blank (pos 0) v) (blank (pos 0) c)
       | false ↦ emptied 1 n l v c
     ]

@@ -9,23 +9,23 @@ pub record Ran : Type 0 where
   pub log : List ℤ
   pub rows : ℕ
 
-abbrev pub ranTo : State → List ℤ → ℕ → Ran
-ranTo s l n = record { after = s; log = l; rows = n }
+abbrev pub ran_to : State → List ℤ → ℕ → Ran
+ran_to s l n = record { after = s; log = l; rows = n }
 
-abbrev pub rowWords : ℕ
-rowWords = 2
+abbrev pub row_words : ℕ
+row_words = 2
 
 -- there is room for a row
-abbrev pub fitsRow : List ℤ → Bool
-fitsRow l = leb rowWords (length l)
+abbrev pub fits_row : List ℤ → Bool
+fits_row l = leb row_words (length l)
 
 -- a node's number as a word of the log; it is far below 2 ^ 63
-unfoldable pub numberWord : ℕ → ℤ
-numberWord e = pos (e % 2 ^ 63)
+unfoldable pub number_word : ℕ → ℤ
+number_word e = pos (e % 2 ^ 63)
 
 -- the row of effect e at the front
 unfoldable pub rowed : List ℤ → ℕ → Value → List ℤ
-rowed l e v = elim (fitsRow l) [ true ↦ set (set l 0 (numberWord e)) 1 v.word | false ↦ l ]
+rowed l e v = elim (fits_row l) [ true ↦ set (set l 0 (number_word e)) 1 v.word | false ↦ l ]
 
-unfoldable pub rowsIn : List ℤ → ℕ
-rowsIn l = elim (fitsRow l) [ true ↦ 1 | false ↦ 0 ]
+unfoldable pub rows_in : List ℤ → ℕ
+rows_in l = elim (fits_row l) [ true ↦ 1 | false ↦ 0 ]

@@ -1,8 +1,8 @@
 // Batches: as long as one is open, writes are not followed by a flush. After start_batch, end_batch and get_batch_depth of system.rs.
 ghost use Rattle.std.specs.Prelude.{◌≡◌};
 ghost use Rattle.reading.specs.Tables.{state};
-ghost use Rattle.operating.specs.Log.{ranTo};
-ghost use Rattle.operating.specs.Batches.{depth_of, started, endedBatch};
+ghost use Rattle.operating.specs.Log.{ran_to};
+ghost use Rattle.operating.specs.Batches.{depth_of, started, ended_batch};
 
 use crate::runs::flush;
 use primitive::rows::DEPTH;
@@ -34,7 +34,7 @@ pub fn end_batch(
     cells: &[i64],
     log: &mut [i64],
 ) -> u64
-    ensures { ranTo (state nodes.new links.new values.new) log.new result ≡ endedBatch cells.now (state nodes.old links.old values.old) log.old }
+    ensures { ran_to (state nodes.new links.new values.new) log.new result ≡ ended_batch cells.now (state nodes.old links.old values.old) log.old }
 {
     let d = depth(nodes);
     if d == 0 {

@@ -1,6 +1,6 @@
 // The log of runs: rows of two words, the effect's number and the value of its formula.
 ghost use Rattle.std.specs.Prelude.{◌≡◌};
-ghost use Rattle.operating.specs.Log.{numberWord, rowed, rowsIn};
+ghost use Rattle.operating.specs.Log.{number_word, rowed, rows_in};
 
 use values::Value;
 
@@ -8,14 +8,14 @@ use values::Value;
 const HALF: u64 = 9223372036854775808;
 
 pub fn number_word(n: u64) -> i64
-    ensures { result ≡ numberWord n }
+    ensures { result ≡ number_word n }
 {
     (n % HALF) as i64
 }
 
 // One row at the front, where the log has room for one. The answer is how many rows were written.
 pub fn write_row(log: &mut [i64], e: u64, v: Value) -> u64
-    ensures value { result ≡ rowsIn log.old }
+    ensures value { result ≡ rows_in log.old }
     ensures log_after { log.new ≡ rowed log.old e v }
 {
     if log.len() < 2 {

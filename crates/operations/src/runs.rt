@@ -1,8 +1,8 @@
 // Runs of effects, and the flush that empties the queue. After run and flush of lib.rs.
 ghost use Rattle.std.specs.Prelude.{◌≡◌, List, ℤ};
 ghost use Rattle.reading.specs.Tables.{state, told, got};
-ghost use Rattle.operating.specs.Log.{ranTo};
-ghost use Rattle.operating.specs.Runs.{begunRun, endedRun, finishedRun, reran, mustRun, ran, flushed};
+ghost use Rattle.operating.specs.Log.{ran_to};
+ghost use Rattle.operating.specs.Runs.{begun_run, ended_run, finished_run, reran, must_run, ran, flushed};
 
 use crate::log::write_row;
 use flags::Flags;
@@ -21,7 +21,7 @@ pub const RUNNING: Flags = Flags {
 
 // A rerun is in a new cycle, and no dependency is reached yet.
 fn begin(nodes: &mut [u64], links: &mut [u64], e: u64)
-    ensures { (v : List ℤ) → state nodes.new links.new v ≡ begunRun (state nodes.old links.old v) e }
+    ensures { (v : List ℤ) → state nodes.new links.new v ≡ begun_run (state nodes.old links.old v) e }
 {
     raise_cycle(links);
     words::store(nodes, NODE, e, DEPS_TAIL, 0);
@@ -30,14 +30,14 @@ fn begin(nodes: &mut [u64], links: &mut [u64], e: u64)
 
 // The run of e is over; it watches.
 pub fn end_run(nodes: &mut [u64], e: u64)
-    ensures { nodes.new ≡ endedRun nodes.old e }
+    ensures { nodes.new ≡ ended_run nodes.old e }
 {
     set_flags(nodes, e, flags(nodes, e).clear(Flags::RECURSED_CHECK));
 }
 
 // What was not reached in this run goes: links to what it read before, and everything that it owned.
 fn finish(nodes: &mut [u64], links: &mut [u64], e: u64)
-    ensures { (v : List ℤ) → state nodes.new links.new v ≡ finishedRun (state nodes.old links.old v) e }
+    ensures { (v : List ℤ) → state nodes.new links.new v ≡ finished_run (state nodes.old links.old v) e }
 {
     end_run(nodes, e);
     purge_deps(nodes, links, e);
@@ -55,7 +55,7 @@ fn rerun(nodes: &mut [u64], links: &mut [u64], values: &mut [i64], cells: &[i64]
 
 // Whether e has to run: its reads decide. A gone effect has no flags, and does not.
 fn must_run(nodes: &mut [u64], links: &mut [u64], values: &mut [i64], cells: &[i64], e: u64) -> bool
-    ensures { told result (state nodes.new links.new values.new) ≡ mustRun cells.now (state nodes.old links.old values.old) e }
+    ensures { told result (state nodes.new links.new values.new) ≡ must_run cells.now (state nodes.old links.old values.old) e }
 {
     let flags = flags(nodes, e);
     if has(flags, Flags::DIRTY) {
@@ -76,7 +76,7 @@ pub fn run(
     log: &mut [i64],
     e: u64,
 ) -> u64
-    ensures { ranTo (state nodes.new links.new values.new) log.new result ≡ ran cells.now (state nodes.old links.old values.old) log.old e }
+    ensures { ran_to (state nodes.new links.new values.new) log.new result ≡ ran cells.now (state nodes.old links.old values.old) log.old e }
 {
     if must_run(nodes, links, values, cells, e) {
         let value = rerun(nodes, links, values, cells, e);
@@ -94,7 +94,7 @@ pub fn flush(
     cells: &[i64],
     log: &mut [i64],
 ) -> u64
-    ensures { ranTo (state nodes.new links.new values.new) log.new result ≡ flushed cells.now (state nodes.old links.old values.old) log.old }
+    ensures { ran_to (state nodes.new links.new values.new) log.new result ≡ flushed cells.now (state nodes.old links.old values.old) log.old }
 {
     let mut i: u64 = 0;
     let mut rows: u64 = 0;

@@ -1,7 +1,7 @@
 // Writes to a signal. After signal_set_oper, signal_set_with_oper and _signal_set_oper_core of lib.rs.
 ghost use Rattle.std.specs.Prelude.{◌≡◌};
 ghost use Rattle.reading.specs.Tables.{state};
-ghost use Rattle.operating.specs.Log.{ranTo};
+ghost use Rattle.operating.specs.Log.{ran_to};
 ghost use Rattle.operating.specs.Writes.{written, added};
 
 use crate::batches::depth;
@@ -29,7 +29,7 @@ pub fn set(
     n: u64,
     v: Value,
 ) -> u64
-    ensures { ranTo (state nodes.new links.new values.new) log.new result ≡ written cells.now (state nodes.old links.old values.old) log.old n v }
+    ensures { ran_to (state nodes.new links.new values.new) log.new result ≡ written cells.now (state nodes.old links.old values.old) log.old n v }
 {
     if places::pending(values, n).same(v) {
         return 0;
@@ -56,7 +56,7 @@ pub fn add(
     n: u64,
     d: Value,
 ) -> u64
-    ensures { ranTo (state nodes.new links.new values.new) log.new result ≡ added cells.now (state nodes.old links.old values.old) log.old n d }
+    ensures { ran_to (state nodes.new links.new values.new) log.new result ≡ added cells.now (state nodes.old links.old values.old) log.old n d }
 {
     let sum = places::current(values, n).sum(d);
     set(nodes, links, values, cells, log, n, sum)

@@ -8,9 +8,9 @@ use lib.ListN.{length, take, drop, length-drop}
 use lib.Seq.{take_all, take-length}
 use Rattle.bytes.specs.Bytes.{slice, index_of}
 
-pub rest-is : (w : List ℕ) (k : ℕ) → take (length w - k) (drop k w) ≡ drop k w
-rest-is w k = take_all (length w - k) (drop k w) (omega (arith, length-drop k w))
+pub rest_is : (w : List ℕ) (k : ℕ) → take (length w - k) (drop k w) ≡ drop k w
+rest_is w k = take_all (length w - k) (drop k w) (omega (arith, length-drop k w))
 
-pub found-is : (w : List ℕ) → 0 + index_of 10 (slice 0 (length w) w) ≡ index_of 10 w
+pub found_is : (w : List ℕ) → 0 + index_of 10 (slice 0 (length w) w) ≡ index_of 10 w
 unfolding slice
-found-is w = zero-add (index_of 10 (take (length w) w)) ∙ ap (index_of 10) (take-length w)
+found_is w = zero-add (index_of 10 (take (length w) w)) ∙ ap (index_of 10) (take-length w)

@@ -1,7 +1,7 @@
 // Many scripts in one stream, as oracle/README.md sets it out: each is followed by a line `%`, or by a line `%cut` where the newline before that
 // line is no part of the script.
 ghost use Rattle.std.specs.Prelude.{◌≡◌, ◌<◌, ◌≤◌, length};
-ghost use Rattle.packs.specs.Packs.{line_of, mark_of, unendedIn, pairIn, secondIn, firstIn, open_in, restIn, lineIn, decided};
+ghost use Rattle.packs.specs.Packs.{line_of, mark_of, unended_in, pair_in, second_in, first_in, open_in, rest_in, line_in, decided};
 
 use bytes::scan::find;
 
@@ -74,7 +74,7 @@ fn marked(w: &[u8]) -> Mark
 const MOST_BYTES: usize = 8194;
 
 fn unended(w: &[u8], over: bool) -> Act
-    ensures { result ≡ unendedIn w.now over }
+    ensures { result ≡ unended_in w.now over }
 {
     if over {
         return Act::Turn(w.len(), true);
@@ -87,7 +87,7 @@ fn unended(w: &[u8], over: bool) -> Act
 
 fn pair(over: bool, two: usize, mark: Mark) -> Act
     requires { 0 < two }
-    ensures { result ≡ pairIn over two mark }
+    ensures { result ≡ pair_in over two mark }
 {
     match mark {
         Mark::Unknown => {
@@ -104,7 +104,7 @@ fn pair(over: bool, two: usize, mark: Mark) -> Act
 
 fn second(w: &[u8], over: bool, one: usize) -> Act
     requires { one ≤ length w.now }
-    ensures { result ≡ secondIn w.now over one }
+    ensures { result ≡ second_in w.now over one }
 {
     let more = line(&w[one..]);
     if more == 0 {
@@ -117,7 +117,7 @@ fn second(w: &[u8], over: bool, one: usize) -> Act
 fn first(w: &[u8], over: bool, one: usize, mark: Mark) -> Act
     requires one_in_bounds { one ≤ length w.now }
     requires one_nonzero { 0 < one }
-    ensures { result ≡ firstIn w.now over one mark }
+    ensures { result ≡ first_in w.now over one mark }
 {
     match mark {
         Mark::Unknown => unended(w, over),
@@ -145,7 +145,7 @@ fn script(w: &[u8], over: bool, mark: Mark) -> Act
 }
 
 fn rest(w: &[u8], over: bool) -> Act
-    ensures { result ≡ restIn w.now over }
+    ensures { result ≡ rest_in w.now over }
 {
     let n = line(w);
     if n != 0 {
@@ -161,7 +161,7 @@ fn rest(w: &[u8], over: bool) -> Act
 }
 
 fn between(over: bool, mark: Mark) -> Act
-    ensures { result ≡ lineIn over mark }
+    ensures { result ≡ line_in over mark }
 {
     match mark {
         Mark::Unknown => {

@@ -1,9 +1,9 @@
 -- Demand 3 of an engine over lent tables: what is asked of each call of a history, in the words of its answer, its log and the tables after it.
--- The engine is an argument, so that another can be held to the same; `command` is `answeredOn`, that is `commandIn`, which its contract cites.
+-- The engine is an argument, so that another can be held to the same; `command` is `answered_on`, that is `command_in`, which its contract cites.
 use Rattle.std.specs.Prelude.{◌≡◌, true, List, [], ◌∷◌, ℕ, ◌<◌, ◌/◌, ◌^◌, ℤ, length}
-use Rattle.counting.specs.Counts.{carryIn}
-use Rattle.refusing.specs.Sight.{roomIn}
-use Rattle.operating.specs.Log.{rowWords}
+use Rattle.counting.specs.Counts.{carry_in}
+use Rattle.refusing.specs.Sight.{room_in}
+use Rattle.operating.specs.Log.{row_words}
 use Rattle.operating.specs.Emptying.{emptying}
 use Rattle.commanding.specs.Command.{Answered}
 use Rattle.meaning.specs.State.{St}
@@ -19,7 +19,7 @@ TableEngine = Tables → Lent → Answered
 
 -- a call: its words, and as many rows as its lent log has
 abbrev pub call : Lent → Call
-call c = record { rows = length c.0 / rowWords; words = c.1 }
+call c = record { rows = length c.0 / row_words; words = c.1 }
 
 abbrev pub calls : List Lent → List Call
 calls [] = []
@@ -32,26 +32,26 @@ pub record Seen : Type 0 where
   pub runs : ℕ
   pub log : List ℤ
 
-abbrev pub seenOf : Answered → Seen
-seenOf a = record { code = a.code; value = a.value; runs = a.runs; log = a.log }
+abbrev pub seen_of : Answered → Seen
+seen_of a = record { code = a.code; value = a.value; runs = a.runs; log = a.log }
 
 -- of each of these calls, on the tables that the one before it left
-unfoldable pub seenOn : TableEngine → Tables → List Lent → List Seen
-seenOn E t [] = []
-seenOn E t (c ∷ cs) = seenOf (E t c) ∷ seenOn E (left (E t c)) cs
+unfoldable pub seen_on : TableEngine → Tables → List Lent → List Seen
+seen_on E t [] = []
+seen_on E t (c ∷ cs) = seen_of (E t c) ∷ seen_on E (left (E t c)) cs
 
 -- the tables after them
-unfoldable pub leftOn : TableEngine → Tables → List Lent → Tables
-leftOn E t [] = t
-leftOn E t (c ∷ cs) = leftOn E (left (E t c)) cs
+unfoldable pub left_on : TableEngine → Tables → List Lent → Tables
+left_on E t [] = t
+left_on E t (c ∷ cs) = left_on E (left (E t c)) cs
 
 -- tables that represent the state s, as long as those that were lent
 pub record Stand (t : Tables) (N L : List ℕ) (W C : List ℤ) (s : St) : Type 0 where
   pub represent : Rep t.nodes t.links t.values t.cells s
-  pub of-nodes : length t.nodes ≡ length N
-  pub of-links : length t.links ≡ length L
+  pub of_nodes : length t.nodes ≡ length N
+  pub of_links : length t.links ≡ length L
   pub of_values : length t.values ≡ length W
-  pub of-cells : length t.cells ≡ length C
+  pub of_cells : length t.cells ≡ length C
 
 -- the words of an answer show a reply: its code, its value, and its rows in the log l, two words each, effect and value. What a run read is in no word; `Right` says what it is
 pub record Shows (l : List ℤ) (a : Answered) (r : Reply) : Type 0 where
@@ -83,4 +83,4 @@ AllRight E p t (c ∷ cs) = (r : Reply) × RightOn p t c (E t c) r (told p (call
 
 -- tables of any words, of lengths that carry capacities, once they are emptied; any calls, each with a lent log of its own
 unfoldable pub Demand3On : TableEngine → Type 0
-Demand3On E = (N L : List ℕ) (W C : List ℤ) → carryIn N L W C ≡ true → (h : List Lent) → AllRight E (begun (roomIn N L C)) (cleared (emptying N L W C)) h
+Demand3On E = (N L : List ℕ) (W C : List ℤ) → carry_in N L W C ≡ true → (h : List Lent) → AllRight E (begun (room_in N L C)) (cleared (emptying N L W C)) h

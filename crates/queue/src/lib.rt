@@ -1,6 +1,6 @@
 // The queue of effects: a column of the node table. Row 0 holds its length, row i + 1 its entry i, so it never holds more entries than there are rows.
 ghost use Rattle.std.specs.Prelude.{◌≡◌};
-ghost use Rattle.queue.specs.Queue.{count, entry_at, pushed, emptied, swapped, reversedFrom};
+ghost use Rattle.queue.specs.Queue.{count, entry_at, pushed, emptied, swapped, reversed_from};
 
 use primitive::rows::{NODE, QUEUE};
 use primitive::words;
@@ -56,7 +56,7 @@ fn swap(nodes: &mut [u64], i: u64, j: u64)
 
 // The entries from `from` on, last first; those before it stay.
 pub fn reverse_from(nodes: &mut [u64], from: u64)
-    ensures { nodes.new ≡ reversedFrom nodes.old from }
+    ensures { nodes.new ≡ reversed_from nodes.old from }
 {
     let mut lo = from;
     let mut hi = length(nodes);

@@ -8,44 +8,44 @@ use lib.IntN.{ℤ, pos}
 use lib.ListN.{length, get_or-eq_default}
 use lib.Seq.{set_out}
 use Rattle.values.specs.declared.Value.{Value}
-use Rattle.values.specs.Values.{value, value_at, setValue}
+use Rattle.values.specs.Values.{value, value_at, set_value}
 use Rattle.marking.specs.Fields.{flags_of, dirty, has}
-use Rattle.reading.specs.Tables.{State, state, Told, currentOf, pendingOf, setCurrent, setPending}
-use Rattle.reading.specs.Steps.{woken, updatedSignal, wakenIf, refreshedSignal}
+use Rattle.reading.specs.Tables.{State, state, Told, current_of, pending_of, set_current, set_pending}
+use Rattle.reading.specs.Steps.{woken, updated_signal, waken_if, refreshed_signal}
 
 module _ (vs : List ℤ) (n : ℕ) (h : length vs ≤ n) where
-  pub current-out : {v : Value} → v ≡ value (pos 0) → v ≡ currentOf vs n
-  unfolding currentOf value_at
-  current-out e = e ∙ ap value (sym (get_or-eq_default vs (pos 0) {n = n * 2 * 2} (omega arith)))
+  pub current_out : {v : Value} → v ≡ value (pos 0) → v ≡ current_of vs n
+  unfolding current_of value_at
+  current_out e = e ∙ ap value (sym (get_or-eq_default vs (pos 0) {n = n * 2 * 2} (omega arith)))
 
-  pub pending-out : {v : Value} → v ≡ value (pos 0) → v ≡ pendingOf vs n
-  unfolding pendingOf value_at
-  pending-out e = e ∙ ap value (sym (get_or-eq_default vs (pos 0) {n = (n * 2 + 1) * 2} (omega arith)))
+  pub pending_out : {v : Value} → v ≡ value (pos 0) → v ≡ pending_of vs n
+  unfolding pending_of value_at
+  pending_out e = e ∙ ap value (sym (get_or-eq_default vs (pos 0) {n = (n * 2 + 1) * 2} (omega arith)))
 
-  pub set-current-out : (v : Value) → vs ≡ setCurrent vs n v
-  unfolding setCurrent setValue
-  set-current-out v = sym (set_out vs (n * 2 * 2) v.word (omega arith))
+  pub set_current_out : (v : Value) → vs ≡ set_current vs n v
+  unfolding set_current set_value
+  set_current_out v = sym (set_out vs (n * 2 * 2) v.word (omega arith))
 
-  pub set-pending-out : (v : Value) → vs ≡ setPending vs n v
-  unfolding setPending setValue
-  set-pending-out v = sym (set_out vs ((n * 2 + 1) * 2) v.word (omega arith))
+  pub set_pending_out : (v : Value) → vs ≡ set_pending vs n v
+  unfolding set_pending set_value
+  set_pending_out v = sym (set_out vs ((n * 2 + 1) * 2) v.word (omega arith))
 
 module _ (s : State) (n : ℕ) {f : ℕ} (e : f ≡ flags_of s.nodes n) {y : Bool} (a : y ≡ has f dirty) where
-  module _ (p : y ≡ true) (u : Told) (g : u ≡ updatedSignal s n) where
-    pub signal-changed : {N : List ℕ} → u.changed ≡ true → N ≡ woken u.after.links u.after.nodes n → state N u.after.links u.after.values ≡ refreshedSignal s n
-    unfolding refreshedSignal wakenIf
-    signal-changed q w =
+  module _ (p : y ≡ true) (u : Told) (g : u ≡ updated_signal s n) where
+    pub signal_changed : {N : List ℕ} → u.changed ≡ true → N ≡ woken u.after.links u.after.nodes n → state N u.after.links u.after.values ≡ refreshed_signal s n
+    unfolding refreshed_signal waken_if
+    signal_changed q w =
         let z : has (flags_of s.nodes n) dirty ≡ true = rw (← e) (sym a ∙ p) in
-        rw (z, refreshedSignal, ← g, q, wakenIf, ← g, w)
+        rw (z, refreshed_signal, ← g, q, waken_if, ← g, w)
 
-    pub signal-same : u.changed ≡ false → u.after ≡ refreshedSignal s n
-    unfolding refreshedSignal wakenIf
-    signal-same q =
+    pub signal_same : u.changed ≡ false → u.after ≡ refreshed_signal s n
+    unfolding refreshed_signal waken_if
+    signal_same q =
         let z : has (flags_of s.nodes n) dirty ≡ true = rw (← e) (sym a ∙ p) in
-        rw (z, refreshedSignal, ← g, q, wakenIf, ← g)
+        rw (z, refreshed_signal, ← g, q, waken_if, ← g)
 
-  pub signal-clean : y ≡ false → s ≡ refreshedSignal s n
-  unfolding refreshedSignal
-  signal-clean p =
+  pub signal_clean : y ≡ false → s ≡ refreshed_signal s n
+  unfolding refreshed_signal
+  signal_clean p =
       let z : has (flags_of s.nodes n) dirty ≡ false = rw (← e) (sym a ∙ p) in
-      rw (z, refreshedSignal)
+      rw (z, refreshed_signal)

@@ -1,7 +1,7 @@
 -- The three tables that a read changes, and what is found in them: the values of a node, the evaluation cycle; and the rank of a node.
 use Rattle.std.specs.Prelude.{ℕ, suc, ◌+◌, ◌*◌, ◌%◌, ◌^◌, Bool, List, ℤ, get_or, set}
 use Rattle.values.specs.declared.Value.{Value}
-use Rattle.values.specs.Values.{value_at, setValue}
+use Rattle.values.specs.Values.{value_at, set_value}
 use Rattle.primitive.specs.Words.{CYCLE}
 
 pub record State : Type 0 where
@@ -42,21 +42,21 @@ unfoldable pub rank_of : ℕ → ℕ
 rank_of n = n
 
 -- node n has the value places 2n, its current value, and 2n + 1, of a signal the pending one
-unfoldable pub currentOf : List ℤ → ℕ → Value
-currentOf v n = value_at v (n * 2)
+unfoldable pub current_of : List ℤ → ℕ → Value
+current_of v n = value_at v (n * 2)
 
-unfoldable pub pendingOf : List ℤ → ℕ → Value
-pendingOf v n = value_at v (n * 2 + 1)
+unfoldable pub pending_of : List ℤ → ℕ → Value
+pending_of v n = value_at v (n * 2 + 1)
 
-unfoldable pub setCurrent : List ℤ → ℕ → Value → List ℤ
-setCurrent v n x = setValue v (n * 2) x
+unfoldable pub set_current : List ℤ → ℕ → Value → List ℤ
+set_current v n x = set_value v (n * 2) x
 
-unfoldable pub setPending : List ℤ → ℕ → Value → List ℤ
-setPending v n x = setValue v (n * 2 + 1) x
+unfoldable pub set_pending : List ℤ → ℕ → Value → List ℤ
+set_pending v n x = set_value v (n * 2 + 1) x
 
-unfoldable pub cycleOf : List ℕ → ℕ
-cycleOf l = get_or l CYCLE 0
+unfoldable pub cycle_of : List ℕ → ℕ
+cycle_of l = get_or l CYCLE 0
 
 -- the next cycle, which wraps
 unfoldable pub raised : List ℕ → List ℕ
-raised l = set l CYCLE ((cycleOf l + 1) % 2 ^ 64)
+raised l = set l CYCLE ((cycle_of l + 1) % 2 ^ 64)

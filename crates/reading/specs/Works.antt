@@ -6,16 +6,16 @@ use Rattle.reading.specs.Tables.{State, Got, got}
 use Rattle.reading.specs.Ring.{Ring, read_by}
 
 -- arguments left to right, and of choose only the branch that it takes; as `worth` of the crate `trees`, with a read in the place of the environment
-unfoldable pub workedBy : Ring → ℕ → Tree → State → Got
-workedBy r n (constant k) s = got (value k) s
-workedBy r n (read m) s = read_by r n s m
-workedBy r n (two o a b) s =
-    let x = workedBy r n a s in
-    let y = workedBy r n b x.after in
+unfoldable pub worked_by : Ring → ℕ → Tree → State → Got
+worked_by r n (constant k) s = got (value k) s
+worked_by r n (read m) s = read_by r n s m
+worked_by r n (two o a b) s =
+    let x = worked_by r n a s in
+    let y = worked_by r n b x.after in
     got (apply o x.value y.value) y.after
-workedBy r n (choose c a b) s =
-    let x = workedBy r n c s in
-    elim (is_zero x.value) [ true ↦ workedBy r n b x.after | false ↦ workedBy r n a x.after ]
+worked_by r n (choose c a b) s =
+    let x = worked_by r n c s in
+    elim (is_zero x.value) [ true ↦ worked_by r n b x.after | false ↦ worked_by r n a x.after ]
 
 -- the state after node n has read these nodes, in order
 unfoldable pub read_all : Ring → ℕ → List ℕ → State → State

@@ -1,7 +1,7 @@
 // What goes before and after the evaluation of a computed. After update_computed and the first evaluation of computed_oper.
 ghost use Rattle.std.specs.Prelude.{◌≡◌, List, ℕ, ℤ};
 ghost use Rattle.reading.specs.Tables.{state, told};
-ghost use Rattle.reading.specs.Steps.{begun, finished, begunFirst, finishedFirst};
+ghost use Rattle.reading.specs.Steps.{begun, finished, begun_first, finished_first};
 
 use crate::cycle::raise_cycle;
 use crate::places;
@@ -18,7 +18,7 @@ const EVALUATING: Flags = Flags {
 
 // A first evaluation is in the cycle at hand.
 pub fn begin_first(nodes: &mut [u64], n: u64)
-    ensures { nodes.new ≡ begunFirst nodes.old n }
+    ensures { nodes.new ≡ begun_first nodes.old n }
 {
     set_flags(nodes, n, EVALUATING);
 }
@@ -34,7 +34,7 @@ pub fn begin(nodes: &mut [u64], links: &mut [u64], n: u64)
 
 // The value is kept. There was no dependency before, so none goes.
 pub fn finish_first(nodes: &mut [u64], values: &mut [i64], n: u64, v: Value)
-    ensures { (l : List ℕ) → state nodes.new l values.new ≡ finishedFirst (state nodes.old l values.old) n v }
+    ensures { (l : List ℕ) → state nodes.new l values.new ≡ finished_first (state nodes.old l values.old) n v }
 {
     places::keep_current(values, n, v);
     set_flags(nodes, n, flags(nodes, n).clear(Flags::RECURSED_CHECK));

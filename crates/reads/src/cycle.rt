@@ -1,13 +1,13 @@
 // The evaluation cycle: a word of row 0 of the link table. It is raised before each re-evaluation.
 ghost use Rattle.std.specs.Prelude.{◌≡◌};
-ghost use Rattle.reading.specs.Tables.{cycleOf, raised};
+ghost use Rattle.reading.specs.Tables.{cycle_of, raised};
 
 use primitive::rows::CYCLE;
 use primitive::words;
 use version::Version;
 
 pub fn cycle(links: &[u64]) -> Version
-    ensures { result.cycle ≡ cycleOf links.now }
+    ensures { result.cycle ≡ cycle_of links.now }
 {
     Version {
         cycle: words::at(links, CYCLE),

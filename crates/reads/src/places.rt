@@ -1,11 +1,11 @@
 // The values of a node: its current one and, of a signal, the pending one, at two places of the table of values. The products cannot wrap below its length.
 ghost use Rattle.std.specs.Prelude.{◌≡◌};
-ghost use Rattle.reading.specs.Tables.{currentOf, pendingOf, setCurrent, setPending};
+ghost use Rattle.reading.specs.Tables.{current_of, pending_of, set_current, set_pending};
 
 use values::Value;
 
 pub fn current(values: &[i64], n: u64) -> Value
-    ensures { result ≡ currentOf values.now n }
+    ensures { result ≡ current_of values.now n }
 {
     if n as usize >= values.len() {
         return Value::of(0);
@@ -14,7 +14,7 @@ pub fn current(values: &[i64], n: u64) -> Value
 }
 
 pub fn pending(values: &[i64], n: u64) -> Value
-    ensures { result ≡ pendingOf values.now n }
+    ensures { result ≡ pending_of values.now n }
 {
     if n as usize >= values.len() {
         return Value::of(0);
@@ -23,7 +23,7 @@ pub fn pending(values: &[i64], n: u64) -> Value
 }
 
 pub fn keep_current(values: &mut [i64], n: u64, v: Value)
-    ensures { values.new ≡ setCurrent values.old n v }
+    ensures { values.new ≡ set_current values.old n v }
 {
     if n as usize >= values.len() {
         return;
@@ -32,7 +32,7 @@ pub fn keep_current(values: &mut [i64], n: u64, v: Value)
 }
 
 pub fn keep_pending(values: &mut [i64], n: u64, v: Value)
-    ensures { values.new ≡ setPending values.old n v }
+    ensures { values.new ≡ set_pending values.old n v }
 {
     if n as usize >= values.len() {
         return;

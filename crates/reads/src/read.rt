@@ -1,7 +1,7 @@
 // Reads, for callers: each with what it leaves in every word.
 ghost use Rattle.std.specs.Prelude.{◌≡◌};
 ghost use Rattle.reading.specs.Tables.{state, told, got};
-ghost use Rattle.reading.specs.Read.{read_of, checked, evaluatedFor};
+ghost use Rattle.reading.specs.Read.{read_of, checked, evaluated_for};
 
 use crate::places::current;
 use crate::ring;
@@ -45,7 +45,7 @@ pub fn evaluate(
     cells: &[i64],
     n: u64,
 ) -> Value
-    ensures { got result (state nodes.new links.new values.new) ≡ evaluatedFor cells.now (state nodes.old links.old values.old) n }
+    ensures { got result (state nodes.new links.new values.new) ≡ evaluated_for cells.now (state nodes.old links.old values.old) n }
 {
     let at = words::get(nodes, NODE, n, START);
     let worked = ring::evaluate(nodes, links, values, cells, n, at, MOST_NESTING);

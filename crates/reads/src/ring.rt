@@ -4,7 +4,7 @@ ghost use Rattle.std.specs.Prelude.{◌≡◌, ℕ, ◌≤◌, ◌<◌, pos};
 ghost use Rattle.values.specs.Values.{value};
 ghost use Rattle.trees.specs.Trees.{apply};
 ghost use Rattle.reading.specs.Tables.{state, told, got, evaluated};
-ghost use Rattle.reading.specs.Ring.{Enough, Below, read_by, twoBy, chooseBy, evaluatedBy, updatedComputedBy, firstBy, updatedBy, settledBy, pendingBy, dependencyBy, dirtyBy, checkedBy, renewedBy, surelyBy, refreshedComputedBy, refreshedBy};
+ghost use Rattle.reading.specs.Ring.{Enough, Below, read_by, two_by, choose_by, evaluated_by, updated_computed_by, first_by, updated_by, settled_by, pending_by, dependency_by, dirty_by, checked_by, renewed_by, surely_by, refreshed_computed_by, refreshed_by};
 
 use crate::computeds::{begin, begin_first, finish, finish_first};
 use crate::cycle::cycle;
@@ -73,7 +73,7 @@ pub fn evaluate(
     at: u64,
     depth: u64,
 ) -> Worked
-    ensures { Enough cells.now n (λ b. evaluatedBy cells.now b n depth (state nodes.old links.old values.old) at) (evaluated result.value result.next (state nodes.new links.new values.new)) }
+    ensures { Enough cells.now n (λ b. evaluated_by cells.now b n depth (state nodes.old links.old values.old) at) (evaluated result.value result.next (state nodes.new links.new values.new)) }
 {
     if depth == 0 {
         return nothing(at);
@@ -130,7 +130,7 @@ fn evaluate_two(
     depth: u64,
     op: Op,
 ) -> Worked
-    ensures { Enough cells.now n (λ b. twoBy (evaluatedBy cells.now b n depth) op (state nodes.old links.old values.old) at) (evaluated result.value result.next (state nodes.new links.new values.new)) }
+    ensures { Enough cells.now n (λ b. two_by (evaluated_by cells.now b n depth) op (state nodes.old links.old values.old) at) (evaluated result.value result.next (state nodes.new links.new values.new)) }
 {
     let a = evaluate(nodes, links, values, cells, n, at, depth);
     let b = evaluate(nodes, links, values, cells, n, a.next, depth);
@@ -151,7 +151,7 @@ fn evaluate_choose(
     at: u64,
     depth: u64,
 ) -> Worked
-    ensures { Enough cells.now n (λ b. chooseBy cells.now (evaluatedBy cells.now b n depth) (state nodes.old links.old values.old) at) (evaluated result.value result.next (state nodes.new links.new values.new)) }
+    ensures { Enough cells.now n (λ b. choose_by cells.now (evaluated_by cells.now b n depth) (state nodes.old links.old values.old) at) (evaluated result.value result.next (state nodes.new links.new values.new)) }
 {
     let c = evaluate(nodes, links, values, cells, n, at, depth);
     let condition = c.value;
@@ -170,7 +170,7 @@ fn evaluate_choose(
 // The first evaluation of a computed.
 #[cycle(check_dependency_check_dirty_check_pending_dirty_by_evaluate_evaluate_choose_evaluate_first_evaluate_two_read_for_refresh_refresh_computed_refresh_pending_renew_settle_update_update_computed)]
 fn evaluate_first(nodes: &mut [u64], links: &mut [u64], values: &mut [i64], cells: &[i64], n: u64)
-    ensures { Enough cells.now n (λ b. firstBy cells.now b (state nodes.old links.old values.old) n) (state nodes.new links.new values.new) }
+    ensures { Enough cells.now n (λ b. first_by cells.now b (state nodes.old links.old values.old) n) (state nodes.new links.new values.new) }
 {
     let at = words::get(nodes, NODE, n, START);
     begin_first(nodes, n);
@@ -187,7 +187,7 @@ fn update_computed(
     cells: &[i64],
     n: u64,
 ) -> bool
-    ensures { Enough cells.now n (λ b. updatedComputedBy cells.now b (state nodes.old links.old values.old) n) (told result (state nodes.new links.new values.new)) }
+    ensures { Enough cells.now n (λ b. updated_computed_by cells.now b (state nodes.old links.old values.old) n) (told result (state nodes.new links.new values.new)) }
 {
     let at = words::get(nodes, NODE, n, START);
     begin(nodes, links, n);
@@ -198,7 +198,7 @@ fn update_computed(
 // Only signals and computeds are updated; the Rust panics at any other node.
 #[cycle(check_dependency_check_dirty_check_pending_dirty_by_evaluate_evaluate_choose_evaluate_first_evaluate_two_read_for_refresh_refresh_computed_refresh_pending_renew_settle_update_update_computed)]
 fn update(nodes: &mut [u64], links: &mut [u64], values: &mut [i64], cells: &[i64], n: u64) -> bool
-    ensures { Enough cells.now n (λ b. updatedBy cells.now b (state nodes.old links.old values.old) n) (told result (state nodes.new links.new values.new)) }
+    ensures { Enough cells.now n (λ b. updated_by cells.now b (state nodes.old links.old values.old) n) (told result (state nodes.new links.new values.new)) }
 {
     let kind = words::get(nodes, NODE, n, KIND);
     if kind == SIGNAL {
@@ -213,7 +213,7 @@ fn update(nodes: &mut [u64], links: &mut [u64], values: &mut [i64], cells: &[i64
 // Updates a dependency. A change wakes its other subscribers.
 #[cycle(check_dependency_check_dirty_check_pending_dirty_by_evaluate_evaluate_choose_evaluate_first_evaluate_two_read_for_refresh_refresh_computed_refresh_pending_renew_settle_update_update_computed)]
 fn settle(nodes: &mut [u64], links: &mut [u64], values: &mut [i64], cells: &[i64], m: u64) -> bool
-    ensures { Enough cells.now m (λ b. settledBy cells.now b (state nodes.old links.old values.old) m) (told result (state nodes.new links.new values.new)) }
+    ensures { Enough cells.now m (λ b. settled_by cells.now b (state nodes.old links.old values.old) m) (told result (state nodes.new links.new values.new)) }
 {
     if update(nodes, links, values, cells, m) {
         wake_others(nodes, links, m);
@@ -231,7 +231,7 @@ fn check_pending(
     cells: &[i64],
     m: u64,
 ) -> bool
-    ensures { Below cells.now m (λ b. pendingBy cells.now b (state nodes.old links.old values.old) m) (told result (state nodes.new links.new values.new)) }
+    ensures { Below cells.now m (λ b. pending_by cells.now b (state nodes.old links.old values.old) m) (told result (state nodes.new links.new values.new)) }
 {
     if check_dirty(nodes, links, values, cells, m) {
         return settle(nodes, links, values, cells, m);
@@ -249,7 +249,7 @@ fn check_dependency(
     cells: &[i64],
     m: u64,
 ) -> bool
-    ensures { Below cells.now m (λ b. dependencyBy cells.now b (state nodes.old links.old values.old) m) (told result (state nodes.new links.new values.new)) }
+    ensures { Below cells.now m (λ b. dependency_by cells.now b (state nodes.old links.old values.old) m) (told result (state nodes.new links.new values.new)) }
 {
     let flags = flags(nodes, m);
     if has_all(flags, STALE) {
@@ -271,7 +271,7 @@ fn dirty_by(
     n: u64,
     m: u64,
 ) -> bool
-    ensures { Enough cells.now n (λ b. dirtyBy cells.now b (state nodes.old links.old values.old) n m) (told result (state nodes.new links.new values.new)) }
+    ensures { Enough cells.now n (λ b. dirty_by cells.now b (state nodes.old links.old values.old) n m) (told result (state nodes.new links.new values.new)) }
 {
     if has(flags(nodes, n), Flags::DIRTY) {
         return true;
@@ -291,7 +291,7 @@ pub fn check_dirty(
     cells: &[i64],
     n: u64,
 ) -> bool
-    ensures { Enough cells.now n (λ b. checkedBy cells.now b (state nodes.old links.old values.old) n) (told result (state nodes.new links.new values.new)) }
+    ensures { Enough cells.now n (λ b. checked_by cells.now b (state nodes.old links.old values.old) n) (told result (state nodes.new links.new values.new)) }
 {
     let mut link = words::get(nodes, NODE, n, DEPS);
     let mut left = links.len() / 8;
@@ -312,7 +312,7 @@ pub fn check_dirty(
 // A computed is evaluated anew. A change wakes its subscribers.
 #[cycle(check_dependency_check_dirty_check_pending_dirty_by_evaluate_evaluate_choose_evaluate_first_evaluate_two_read_for_refresh_refresh_computed_refresh_pending_renew_settle_update_update_computed)]
 fn renew(nodes: &mut [u64], links: &mut [u64], values: &mut [i64], cells: &[i64], n: u64)
-    ensures { Enough cells.now n (λ b. renewedBy cells.now b (state nodes.old links.old values.old) n) (state nodes.new links.new values.new) }
+    ensures { Enough cells.now n (λ b. renewed_by cells.now b (state nodes.old links.old values.old) n) (state nodes.new links.new values.new) }
 {
     if update_computed(nodes, links, values, cells, n) {
         wake(nodes, links, n);
@@ -330,7 +330,7 @@ fn refresh_pending(
     n: u64,
     flags: Flags,
 )
-    ensures { Enough cells.now n (λ b. surelyBy cells.now b (state nodes.old links.old values.old) n flags.bits) (state nodes.new links.new values.new) }
+    ensures { Enough cells.now n (λ b. surely_by cells.now b (state nodes.old links.old values.old) n flags.bits) (state nodes.new links.new values.new) }
 {
     if check_dirty(nodes, links, values, cells, n) {
         renew(nodes, links, values, cells, n);
@@ -342,7 +342,7 @@ fn refresh_pending(
 // The first half of computed_oper.
 #[cycle(check_dependency_check_dirty_check_pending_dirty_by_evaluate_evaluate_choose_evaluate_first_evaluate_two_read_for_refresh_refresh_computed_refresh_pending_renew_settle_update_update_computed)]
 fn refresh_computed(nodes: &mut [u64], links: &mut [u64], values: &mut [i64], cells: &[i64], n: u64)
-    ensures { Enough cells.now n (λ b. refreshedComputedBy cells.now b (state nodes.old links.old values.old) n) (state nodes.new links.new values.new) }
+    ensures { Enough cells.now n (λ b. refreshed_computed_by cells.now b (state nodes.old links.old values.old) n) (state nodes.new links.new values.new) }
 {
     let flags = flags(nodes, n);
     if has(flags, Flags::DIRTY) {
@@ -362,7 +362,7 @@ fn refresh_computed(nodes: &mut [u64], links: &mut [u64], values: &mut [i64], ce
 // Brings the value of a signal or computed up to date.
 #[cycle(check_dependency_check_dirty_check_pending_dirty_by_evaluate_evaluate_choose_evaluate_first_evaluate_two_read_for_refresh_refresh_computed_refresh_pending_renew_settle_update_update_computed)]
 pub fn refresh(nodes: &mut [u64], links: &mut [u64], values: &mut [i64], cells: &[i64], n: u64)
-    ensures { Enough cells.now n (λ b. refreshedBy cells.now b (state nodes.old links.old values.old) n) (state nodes.new links.new values.new) }
+    ensures { Enough cells.now n (λ b. refreshed_by cells.now b (state nodes.old links.old values.old) n) (state nodes.new links.new values.new) }
 {
     let kind = words::get(nodes, NODE, n, KIND);
     if kind == SIGNAL {

@@ -1,7 +1,7 @@
 // Signals: the pending value becomes the current one. After update_signal and the first half of signal_get_oper.
 ghost use Rattle.std.specs.Prelude.{◌≡◌, List, ℕ};
 ghost use Rattle.reading.specs.Tables.{state, told};
-ghost use Rattle.reading.specs.Steps.{updatedSignal, refreshedSignal};
+ghost use Rattle.reading.specs.Steps.{updated_signal, refreshed_signal};
 
 use crate::places;
 use crate::tests::has;
@@ -11,7 +11,7 @@ use marks::nodes::{flags, set_flags};
 
 // Whether that changed it.
 pub fn update_signal(nodes: &mut [u64], values: &mut [i64], n: u64) -> bool
-    ensures { (l : List ℕ) → told result (state nodes.new l values.new) ≡ updatedSignal (state nodes.old l values.old) n }
+    ensures { (l : List ℕ) → told result (state nodes.new l values.new) ≡ updated_signal (state nodes.old l values.old) n }
 {
     set_flags(nodes, n, Flags::MUTABLE);
     let old = places::current(values, n);
@@ -21,7 +21,7 @@ pub fn update_signal(nodes: &mut [u64], values: &mut [i64], n: u64) -> bool
 }
 
 pub fn refresh_signal(nodes: &mut [u64], links: &[u64], values: &mut [i64], n: u64)
-    ensures { state nodes.new links.now values.new ≡ refreshedSignal (state nodes.old links.now values.old) n }
+    ensures { state nodes.new links.now values.new ≡ refreshed_signal (state nodes.old links.now values.old) n }
 {
     if has(flags(nodes, n), Flags::DIRTY) {
         if update_signal(nodes, values, n) {

@@ -1,6 +1,6 @@
 // Tests of the flag byte.
 ghost use Rattle.std.specs.Prelude.{◌≡◌};
-ghost use Rattle.marking.specs.Fields.{has, hasOnly};
+ghost use Rattle.marking.specs.Fields.{has, has_only};
 
 use flags::Flags;
 
@@ -13,7 +13,7 @@ pub fn has(f: Flags, bits: Flags) -> bool
 
 // Whether all of these bits are set.
 pub fn has_all(f: Flags, bits: Flags) -> bool
-    ensures { result ≡ hasOnly f.bits bits.bits bits.bits }
+    ensures { result ≡ has_only f.bits bits.bits bits.bits }
 {
     f.mask(bits).same(bits)
 }

@@ -1,6 +1,6 @@
 // A node's value has changed: its subscribers that are pending become dirty.
 ghost use Rattle.std.specs.Prelude.{◌≡◌};
-ghost use Rattle.reading.specs.Steps.{woken, wokenOthers};
+ghost use Rattle.reading.specs.Steps.{woken, woken_others};
 
 use marks::walks::shallow_propagate;
 use primitive::rows::{LINK, NEXT_SUB, NODE, SUBS};
@@ -18,7 +18,7 @@ pub fn wake(nodes: &mut [u64], links: &[u64], n: u64)
 
 // The dirty check's rule: the one subscriber that asks is told by the answer, so only further ones are woken.
 pub fn wake_others(nodes: &mut [u64], links: &[u64], n: u64)
-    ensures { nodes.new ≡ wokenOthers links.now nodes.old n }
+    ensures { nodes.new ≡ woken_others links.now nodes.old n }
 {
     let Slot::At(s) = slots::open(words::get(nodes, NODE, n, SUBS)) else {
         return;

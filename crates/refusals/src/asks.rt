@@ -1,8 +1,8 @@
 // What a command asks of the tables, told in one way for all ten.
 ghost use Rattle.std.specs.Prelude.{◌≡◌, pos};
-ghost use Rattle.meaning.specs.Words.{commandOf};
-ghost use Rattle.refusing.specs.Commands.{brief, commandBy};
-ghost use Rattle.refusing.specs.Asked.{asked, namesOne, makesOne, cellsFrom};
+ghost use Rattle.meaning.specs.Words.{command_of};
+ghost use Rattle.refusing.specs.Commands.{brief, command_by};
+ghost use Rattle.refusing.specs.Asked.{asked, names_one, makes_one, cells_from};
 
 use crate::commands::number_of;
 use primitive::rows::{COMPUTED, EFFECT, SCOPE, SIGNAL};
@@ -13,7 +13,7 @@ use refusing::asks::{Asks, Takes};
 const NOBODY: i64 = -1;
 
 fn names(takes: Takes, node: i64, ends: bool) -> Asks
-    ensures { result ≡ namesOne takes node ends }
+    ensures { result ≡ names_one takes node ends }
 {
     Asks {
         names: true,
@@ -27,7 +27,7 @@ fn names(takes: Takes, node: i64, ends: bool) -> Asks
 }
 
 fn makes(kind: u64, owner: i64, from: usize) -> Asks
-    ensures { result ≡ makesOne kind owner from }
+    ensures { result ≡ makes_one kind owner from }
 {
     Asks {
         names: false,
@@ -42,7 +42,7 @@ fn makes(kind: u64, owner: i64, from: usize) -> Asks
 
 // By the number and the first word: set and add take signals; read takes signals and computeds; dispose takes effects and scopes.
 fn told_by(k: u64, a: i64) -> Asks
-    ensures { result ≡ asked (commandBy k a (pos 0)) }
+    ensures { result ≡ asked (command_by k a (pos 0)) }
 {
     match k {
         1 => makes(SIGNAL, NOBODY, 0),
@@ -58,14 +58,14 @@ fn told_by(k: u64, a: i64) -> Asks
 }
 
 pub fn asks_of(words: &[i64]) -> Asks
-    ensures { result ≡ asked (brief (commandOf words.now)) }
+    ensures { result ≡ asked (brief (command_of words.now)) }
 {
     told_by(number_of(words), words::signed_at(words, 1))
 }
 
 // Where the cells of the formula begin in the words; at their end if there is none.
 pub fn cells_from(words: &[i64]) -> usize
-    ensures { result ≡ cellsFrom words.now }
+    ensures { result ≡ cells_from words.now }
 {
     let from = asks_of(words).from;
     if from == 0 { words.len() } else { from }

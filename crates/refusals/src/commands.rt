@@ -1,7 +1,7 @@
 // The words of a command, taken apart. Nothing else looks at them, but for the cells of a formula.
 ghost use Rattle.std.specs.Prelude.{◌≡◌};
-ghost use Rattle.meaning.specs.Words.{commandOf};
-ghost use Rattle.refusing.specs.Commands.{number_of, takesWords, commandBy, brief};
+ghost use Rattle.meaning.specs.Words.{command_of};
+ghost use Rattle.refusing.specs.Commands.{number_of, takes_words, command_by, brief};
 
 use formula::cells::natural;
 use primitive::words;
@@ -10,7 +10,7 @@ use trees::cells::Number;
 
 // Whether so many words are as many as the command of this code takes.
 fn takes_words(code: u64, n: usize) -> bool
-    ensures { result ≡ takesWords code n }
+    ensures { result ≡ takes_words code n }
 {
     match code {
         1 => n == 2,
@@ -29,7 +29,7 @@ fn takes_words(code: u64, n: usize) -> bool
 
 // The number of the command, 0 if it is unknown.
 pub fn number_of(words: &[i64]) -> u64
-    ensures { result ≡ number_of (brief (commandOf words.now)) }
+    ensures { result ≡ number_of (brief (command_of words.now)) }
 {
     let Number::Is(code) = natural(words::signed_at(words, 0)) else {
         return 0;
@@ -42,7 +42,7 @@ pub fn number_of(words: &[i64]) -> u64
 
 // The command of this number, with the two words after its code.
 fn command_by(k: u64, a: i64, b: i64) -> Command
-    ensures { result ≡ commandBy k a b }
+    ensures { result ≡ command_by k a b }
 {
     match k {
         1 => Command::Signal(a),
@@ -60,7 +60,7 @@ fn command_by(k: u64, a: i64, b: i64) -> Command
 }
 
 pub fn command_of(words: &[i64]) -> Command
-    ensures { result ≡ brief (commandOf words.now) }
+    ensures { result ≡ brief (command_of words.now) }
 {
     command_by(
         number_of(words),

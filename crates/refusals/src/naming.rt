@@ -1,10 +1,10 @@
 // Rows 2 to 4 of the table: the command, and the nodes that it names.
 ghost use Rattle.std.specs.Prelude.{◌≡◌, ◌&&◌};
 ghost use Rattle.meaning.specs.State.{readable};
-ghost use Rattle.meaning.specs.Words.{commandOf};
-ghost use Rattle.meaning.specs.Refusals.{on, unknown, is_a, wrongOwner, wrongNode, isGone, goneNode};
-ghost use Rattle.refusing.specs.Sight.{kind_of, nodesAlone};
-ghost use Rattle.refusing.specs.Asked.{taken, nodeAsked, wrongNamed};
+ghost use Rattle.meaning.specs.Words.{command_of};
+ghost use Rattle.meaning.specs.Refusals.{on, unknown, is_a, wrong_owner, wrong_node, is_gone, gone_node};
+ghost use Rattle.refusing.specs.Sight.{kind_of, nodes_alone};
+ghost use Rattle.refusing.specs.Asked.{taken, node_asked, wrong_named};
 
 use crate::asks::asks_of;
 use crate::commands::number_of;
@@ -16,7 +16,7 @@ use trees::cells::Number;
 
 // 2: unknown command code or wrong word count.
 pub fn unknown(words: &[i64]) -> bool
-    ensures { result ≡ unknown (commandOf words.now) }
+    ensures { result ≡ unknown (command_of words.now) }
 {
     number_of(words) == 0
 }
@@ -43,7 +43,7 @@ fn readable_kind(kind: u64) -> bool
 
 // Whether n is the number of a node of a kind that is taken.
 fn is_a(nodes: &[u64], t: Takes, n: i64) -> bool
-    ensures { result ≡ is_a (nodesAlone nodes.now) (taken t) n }
+    ensures { result ≡ is_a (nodes_alone nodes.now) (taken t) n }
 {
     let Number::Is(k) = natural(n) else {
         return false;
@@ -55,7 +55,7 @@ fn is_a(nodes: &[u64], t: Takes, n: i64) -> bool
 }
 
 fn wrong_named(nodes: &[u64], named: bool, t: Takes, n: i64) -> bool
-    ensures { result ≡ wrongNamed (nodesAlone nodes.now) (taken t) (nodeAsked named n) }
+    ensures { result ≡ wrong_named (nodes_alone nodes.now) (taken t) (node_asked named n) }
 {
     if named {
         return !is_a(nodes, t, n);
@@ -65,7 +65,7 @@ fn wrong_named(nodes: &[u64], named: bool, t: Takes, n: i64) -> bool
 
 // -1 as owner means none.
 fn wrong_owner(nodes: &[u64], owner: i64) -> bool
-    ensures { result ≡ wrongOwner (nodesAlone nodes.now) owner }
+    ensures { result ≡ wrong_owner (nodes_alone nodes.now) owner }
 {
     if owner == -1 {
         return false;
@@ -75,7 +75,7 @@ fn wrong_owner(nodes: &[u64], owner: i64) -> bool
 
 // 3: node or owner number unknown, or of a kind the command doesn't take.
 pub fn wrong_node(nodes: &[u64], words: &[i64]) -> bool
-    ensures { result ≡ on (commandOf words.now) (wrongNode (nodesAlone nodes.now)) }
+    ensures { result ≡ on (command_of words.now) (wrong_node (nodes_alone nodes.now)) }
 {
     let a = asks_of(words);
     let t = a.takes;
@@ -86,7 +86,7 @@ pub fn wrong_node(nodes: &[u64], words: &[i64]) -> bool
 }
 
 fn is_gone(nodes: &[u64], n: i64) -> bool
-    ensures { result ≡ isGone (nodesAlone nodes.now) n }
+    ensures { result ≡ is_gone (nodes_alone nodes.now) n }
 {
     let Number::Is(k) = natural(n) else {
         return false;
@@ -95,7 +95,7 @@ fn is_gone(nodes: &[u64], n: i64) -> bool
 }
 
 fn gone_named(nodes: &[u64], ends: bool, n: i64) -> bool
-    ensures { result ≡ (ends && isGone (nodesAlone nodes.now) n) }
+    ensures { result ≡ (ends && is_gone (nodes_alone nodes.now) n) }
 {
     if ends {
         return is_gone(nodes, n);
@@ -105,7 +105,7 @@ fn gone_named(nodes: &[u64], ends: bool, n: i64) -> bool
 
 // 4: the node to dispose, or the owner, is gone.
 pub fn gone_node(nodes: &[u64], words: &[i64]) -> bool
-    ensures { result ≡ on (commandOf words.now) (goneNode (nodesAlone nodes.now)) }
+    ensures { result ≡ on (command_of words.now) (gone_node (nodes_alone nodes.now)) }
 {
     let a = asks_of(words);
     if gone_named(nodes, a.ends, a.node) {

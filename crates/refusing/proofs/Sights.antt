@@ -8,112 +8,112 @@ use lib.Dec.{ltb}
 use lib.IntN.{ℤ, pos, negsuc}
 use Rattle.trees.specs.Trees.{Tree, names}
 use Rattle.meaning.specs.State.{Kind, readable}
-use Rattle.meaning.specs.Words.{Command as Meant, makeSignal, makeComputed, makeEffect, makeScope, set_to, addTo, read_of, disposeOf, batchStart, batchEnd, ownerOf, tree_of}
-use Rattle.meaning.specs.Refusals.{Sight, asksOf, on, anOwner, is_a, wrongOwner, wrongNode, isGone, goneNode, allReadable, badFormula, treeIn, tooHigh, full, noRoom, wrongDepth, fewRows}
-use Rattle.refusing.specs.Sight.{nodesAlone, sightIn}
-use Rattle.refusing.specs.Asked.{wrongNamed, over, illegal}
+use Rattle.meaning.specs.Words.{Command as Meant, make_signal, make_computed, make_effect, make_scope, set_to, add_to, read_of, dispose_of, batch_start, batch_end, owner_of, tree_of}
+use Rattle.meaning.specs.Refusals.{Sight, asks_of, on, an_owner, is_a, wrong_owner, wrong_node, is_gone, gone_node, all_readable, bad_formula, tree_in, too_high, full, no_room, wrong_depth, few_rows}
+use Rattle.refusing.specs.Sight.{nodes_alone, sight_in}
+use Rattle.refusing.specs.Asked.{wrong_named, over, illegal}
 
 module _ (nodes links : List ℕ) (cells : List ℤ) (rows : ℕ) where
   abbrev v : Sight
-  v = sightIn nodes links cells rows
+  v = sight_in nodes links cells rows
 
   abbrev w : Sight
-  w = nodesAlone nodes
+  w = nodes_alone nodes
 
   -- ---- 3
-  a-sees : (p : Kind → Bool) (z : ℤ) → is_a v p z ≡ is_a w p z
+  a_sees : (p : Kind → Bool) (z : ℤ) → is_a v p z ≡ is_a w p z
   unfolding is_a
-  a-sees p (pos n) = refl
-  a-sees p (negsuc n) = refl
+  a_sees p (pos n) = refl
+  a_sees p (negsuc n) = refl
 
-  named-sees : (p : Kind → Bool) (o : Option ℤ) → wrongNamed v p o ≡ wrongNamed w p o
-  named-sees p none = refl
-  named-sees p (some z) = ap not (a-sees p z)
+  named_sees : (p : Kind → Bool) (o : Option ℤ) → wrong_named v p o ≡ wrong_named w p o
+  named_sees p none = refl
+  named_sees p (some z) = ap not (a_sees p z)
 
-  owner-sees : (z : ℤ) → wrongOwner v z ≡ wrongOwner w z
-  owner-sees (pos n) = ap not (a-sees anOwner (pos n))
-  owner-sees (negsuc zero) = refl
-  owner-sees (negsuc (suc n)) = refl
+  owner_sees : (z : ℤ) → wrong_owner v z ≡ wrong_owner w z
+  owner_sees (pos n) = ap not (a_sees an_owner (pos n))
+  owner_sees (negsuc zero) = refl
+  owner_sees (negsuc (suc n)) = refl
 
-  pub wrong-sees : (c : Option Meant) → on c (wrongNode v) ≡ on c (wrongNode w)
-  unfolding wrongNode
-  wrong-sees none = refl
-  wrong-sees (some c) = ap₂ ◌||◌ (named-sees (asksOf c).takes (asksOf c).node) (owner-sees (asksOf c).owner)
+  pub wrong_sees : (c : Option Meant) → on c (wrong_node v) ≡ on c (wrong_node w)
+  unfolding wrong_node
+  wrong_sees none = refl
+  wrong_sees (some c) = ap₂ ◌||◌ (named_sees (asks_of c).takes (asks_of c).node) (owner_sees (asks_of c).owner)
 
   -- ---- 4
-  is-gone-sees : (z : ℤ) → isGone v z ≡ isGone w z
-  is-gone-sees (pos n) = refl
-  is-gone-sees (negsuc n) = refl
+  is_gone_sees : (z : ℤ) → is_gone v z ≡ is_gone w z
+  is_gone_sees (pos n) = refl
+  is_gone_sees (negsuc n) = refl
 
-  gone-named-sees : (o : Option ℤ) → on o (isGone v) ≡ on o (isGone w)
-  gone-named-sees none = refl
-  gone-named-sees (some z) = is-gone-sees z
+  gone_named_sees : (o : Option ℤ) → on o (is_gone v) ≡ on o (is_gone w)
+  gone_named_sees none = refl
+  gone_named_sees (some z) = is_gone_sees z
 
-  pub gone-sees : (c : Option Meant) → on c (goneNode v) ≡ on c (goneNode w)
-  unfolding goneNode
-  gone-sees none = refl
-  gone-sees (some c) = ap₂ ◌||◌ (ap (λ (b : Bool). (asksOf c).ends && b) (gone-named-sees (asksOf c).node)) (is-gone-sees (asksOf c).owner)
+  pub gone_sees : (c : Option Meant) → on c (gone_node v) ≡ on c (gone_node w)
+  unfolding gone_node
+  gone_sees none = refl
+  gone_sees (some c) = ap₂ ◌||◌ (ap (λ (b : Bool). (asks_of c).ends && b) (gone_named_sees (asks_of c).node)) (is_gone_sees (asks_of c).owner)
 
   -- ---- 5
-  readable-sees : (ns : List ℕ) → allReadable v ns ≡ allReadable w ns
-  unfolding allReadable
-  readable-sees [] = refl
-  readable-sees (n ∷ ns) = ap₂ ◌&&◌ (a-sees readable (pos n)) (readable-sees ns)
+  readable_sees : (ns : List ℕ) → all_readable v ns ≡ all_readable w ns
+  unfolding all_readable
+  readable_sees [] = refl
+  readable_sees (n ∷ ns) = ap₂ ◌&&◌ (a_sees readable (pos n)) (readable_sees ns)
 
-  legal-sees : (o : Option Tree) → on o (λ t. allReadable v (names t)) ≡ on o (λ t. allReadable w (names t))
-  legal-sees none = refl
-  legal-sees (some t) = readable-sees (names t)
+  legal_sees : (o : Option Tree) → on o (λ t. all_readable v (names t)) ≡ on o (λ t. all_readable w (names t))
+  legal_sees none = refl
+  legal_sees (some t) = readable_sees (names t)
 
-  illegal-sees : (o : Option (List ℤ)) → illegal v o ≡ illegal w o
-  illegal-sees none = refl
-  illegal-sees (some cs) = ap not (legal-sees (tree_of cs))
+  illegal_sees : (o : Option (List ℤ)) → illegal v o ≡ illegal w o
+  illegal_sees none = refl
+  illegal_sees (some cs) = ap not (legal_sees (tree_of cs))
 
-  pub bad-sees : (c : Option Meant) → on c (badFormula v) ≡ on c (badFormula w)
-  unfolding badFormula
-  bad-sees none = refl
-  bad-sees (some c) = illegal-sees (asksOf c).cells
+  pub bad_sees : (c : Option Meant) → on c (bad_formula v) ≡ on c (bad_formula w)
+  unfolding bad_formula
+  bad_sees none = refl
+  bad_sees (some c) = illegal_sees (asks_of c).cells
 
   -- ---- 6
-  over-sees : (k : Option Kind) (t : Tree) (o : Option ℕ) → over v k t o ≡ over w k t o
-  over-sees none t o = refl
-  over-sees (some k) t o = refl
+  over_sees : (k : Option Kind) (t : Tree) (o : Option ℕ) → over v k t o ≡ over w k t o
+  over_sees none t o = refl
+  over_sees (some k) t o = refl
 
-  pub high-sees : (c : Option Meant) → on c (tooHigh v) ≡ on c (tooHigh w)
-  unfolding tooHigh
-  high-sees none = refl
-  high-sees (some c) = over-sees (asksOf c).makes (treeIn (asksOf c).cells) (ownerOf (asksOf c).owner)
+  pub high_sees : (c : Option Meant) → on c (too_high v) ≡ on c (too_high w)
+  unfolding too_high
+  high_sees none = refl
+  high_sees (some c) = over_sees (asks_of c).makes (tree_in (asks_of c).cells) (owner_of (asks_of c).owner)
 
   -- ---- 7
-  full-sees : (k : Option Kind) (t : Tree) (o : Option ℕ) → full v k t o ≡ full (sightIn nodes links cells 0) k t o
-  full-sees none t o = refl
-  full-sees (some k) t o = refl
+  full_sees : (k : Option Kind) (t : Tree) (o : Option ℕ) → full v k t o ≡ full (sight_in nodes links cells 0) k t o
+  full_sees none t o = refl
+  full_sees (some k) t o = refl
 
-  pub room-sees : (c : Option Meant) → on c (noRoom v) ≡ on c (noRoom (sightIn nodes links cells 0))
-  unfolding noRoom
-  room-sees none = refl
-  room-sees (some c) = full-sees (asksOf c).makes (treeIn (asksOf c).cells) (ownerOf (asksOf c).owner)
+  pub room_sees : (c : Option Meant) → on c (no_room v) ≡ on c (no_room (sight_in nodes links cells 0))
+  unfolding no_room
+  room_sees none = refl
+  room_sees (some c) = full_sees (asks_of c).makes (tree_in (asks_of c).cells) (owner_of (asks_of c).owner)
 
   -- ---- 8
-  pub depth-sees : (c : Option Meant) → on c (wrongDepth v) ≡ on c (wrongDepth w)
-  unfolding wrongDepth
-  depth-sees none = refl
-  depth-sees (some c) = refl
+  pub depth_sees : (c : Option Meant) → on c (wrong_depth v) ≡ on c (wrong_depth w)
+  unfolding wrong_depth
+  depth_sees none = refl
+  depth_sees (some c) = refl
 
   -- ---- 9
-  wanted-sees : (c : Meant) → (asksOf c).rows v ≡ (asksOf c).rows (sightIn nodes [] [] rows)
-  unfolding asksOf
-  wanted-sees (makeSignal k) = refl
-  wanted-sees (makeComputed cs) = refl
-  wanted-sees (makeEffect o cs) = refl
-  wanted-sees (makeScope o) = refl
-  wanted-sees (set_to n k) = refl
-  wanted-sees (addTo n k) = refl
-  wanted-sees (read_of n) = refl
-  wanted-sees (disposeOf n) = refl
-  wanted-sees batchStart = refl
-  wanted-sees batchEnd = refl
+  wanted_sees : (c : Meant) → (asks_of c).rows v ≡ (asks_of c).rows (sight_in nodes [] [] rows)
+  unfolding asks_of
+  wanted_sees (make_signal k) = refl
+  wanted_sees (make_computed cs) = refl
+  wanted_sees (make_effect o cs) = refl
+  wanted_sees (make_scope o) = refl
+  wanted_sees (set_to n k) = refl
+  wanted_sees (add_to n k) = refl
+  wanted_sees (read_of n) = refl
+  wanted_sees (dispose_of n) = refl
+  wanted_sees batch_start = refl
+  wanted_sees batch_end = refl
 
-  pub rows-see : (c : Option Meant) → on c (fewRows v) ≡ on c (fewRows (sightIn nodes [] [] rows))
-  unfolding fewRows
-  rows-see none = refl
-  rows-see (some c) = ap (ltb rows) (wanted-sees c)
+  pub rows_see : (c : Option Meant) → on c (few_rows v) ≡ on c (few_rows (sight_in nodes [] [] rows))
+  unfolding few_rows
+  rows_see none = refl
+  rows_see (some c) = ap (ltb rows) (wanted_sees c)

@@ -5,60 +5,60 @@ use mathlib.Core.List.{List, [], ◌∷◌}
 use Prim.Native.Nat.{ℕ}
 use native.Mathlib.Omega.{arith}
 use lib.IntN.{ℤ}
-use Rattle.meaning.specs.Words.{commandOf}
+use Rattle.meaning.specs.Words.{command_of}
 use Rattle.meaning.specs.Refusals.{first, table, refusal}
-use Rattle.refusing.specs.Sight.{sightIn, rowsIn}
-use Rattle.refusing.proofs.Sights.{wrong-sees, gone-sees, bad-sees, high-sees, room-sees, depth-sees, rows-see}
+use Rattle.refusing.specs.Sight.{sight_in, rows_in}
+use Rattle.refusing.proofs.Sights.{wrong_sees, gone_sees, bad_sees, high_sees, room_sees, depth_sees, rows_see}
 
 -- ---- rows 5 to 7 by themselves
 module _ (a b c : Bool) where
-  pub making-5 : a ≡ true → 5 ≡ first 5 (a ∷ b ∷ c ∷ [])
+  pub making_5 : a ≡ true → 5 ≡ first 5 (a ∷ b ∷ c ∷ [])
   unfolding first
-  making-5 e = rw e
+  making_5 e = rw e
 
-  pub making-6 : a ≡ false → b ≡ true → 6 ≡ first 5 (a ∷ b ∷ c ∷ [])
+  pub making_6 : a ≡ false → b ≡ true → 6 ≡ first 5 (a ∷ b ∷ c ∷ [])
   unfolding first
-  making-6 e f = rw (e, f)
+  making_6 e f = rw (e, f)
 
-  pub making-7 : a ≡ false → b ≡ false → c ≡ true → 7 ≡ first 5 (a ∷ b ∷ c ∷ [])
+  pub making_7 : a ≡ false → b ≡ false → c ≡ true → 7 ≡ first 5 (a ∷ b ∷ c ∷ [])
   unfolding first
-  making-7 e f g = rw (e, f, g)
+  making_7 e f g = rw (e, f, g)
 
-  pub making-0 : a ≡ false → b ≡ false → c ≡ false → 0 ≡ first 5 (a ∷ b ∷ c ∷ [])
+  pub making_0 : a ≡ false → b ≡ false → c ≡ false → 0 ≡ first 5 (a ∷ b ∷ c ∷ [])
   unfolding first
-  making-0 e f g = rw (e, f, g)
+  making_0 e f g = rw (e, f, g)
 
 -- and before others
-making-more : (a b c : Bool) (ys : List Bool) {r : ℕ} → r ≡ first 5 (a ∷ b ∷ c ∷ []) → (r ≡ 0 → ⊥) → r ≡ first 5 (a ∷ b ∷ c ∷ ys)
+making_more : (a b c : Bool) (ys : List Bool) {r : ℕ} → r ≡ first 5 (a ∷ b ∷ c ∷ []) → (r ≡ 0 → ⊥) → r ≡ first 5 (a ∷ b ∷ c ∷ ys)
 unfolding first
-making-more true b c ys e h = e
-making-more false true c ys e h = e
-making-more false false true ys e h = e
-making-more false false false ys e h = absurd (h e)
+making_more true b c ys e h = e
+making_more false true c ys e h = e
+making_more false false true ys e h = e
+making_more false false false ys e h = absurd (h e)
 
-making-none : (a b c : Bool) (ys : List Bool) {r : ℕ} → r ≡ first 5 (a ∷ b ∷ c ∷ []) → r ≡ 0 → first 5 (a ∷ b ∷ c ∷ ys) ≡ first 8 ys
+making_none : (a b c : Bool) (ys : List Bool) {r : ℕ} → r ≡ first 5 (a ∷ b ∷ c ∷ []) → r ≡ 0 → first 5 (a ∷ b ∷ c ∷ ys) ≡ first 8 ys
 unfolding first
-making-none true b c ys e h = absurd (omega arith)
-making-none false true c ys e h = absurd (omega arith)
-making-none false false true ys e h = absurd (omega arith)
-making-none false false false ys e h = refl
+making_none true b c ys e h = absurd (omega arith)
+making_none false true c ys e h = absurd (omega arith)
+making_none false false true ys e h = absurd (omega arith)
+making_none false false false ys e h = refl
 
 -- ---- all rows
 module _ (b₂ b₃ b₄ b₅ b₆ b₇ b₈ b₉ : Bool) where
   abbrev given : ℕ
   given = first 2 (b₂ ∷ b₃ ∷ b₄ ∷ b₅ ∷ b₆ ∷ b₇ ∷ b₈ ∷ b₉ ∷ [])
 
-  pub given-2 : b₂ ≡ true → 2 ≡ given
+  pub given_2 : b₂ ≡ true → 2 ≡ given
   unfolding first
-  given-2 e = rw e
+  given_2 e = rw e
 
-  pub given-3 : b₂ ≡ false → b₃ ≡ true → 3 ≡ given
+  pub given_3 : b₂ ≡ false → b₃ ≡ true → 3 ≡ given
   unfolding first
-  given-3 e f = rw (e, f)
+  given_3 e f = rw (e, f)
 
-  pub given-4 : b₂ ≡ false → b₃ ≡ false → b₄ ≡ true → 4 ≡ given
+  pub given_4 : b₂ ≡ false → b₃ ≡ false → b₄ ≡ true → 4 ≡ given
   unfolding first
-  given-4 e f g = rw (e, f, g)
+  given_4 e f g = rw (e, f, g)
 
   module _ (e : b₂ ≡ false) (f : b₃ ≡ false) (g : b₄ ≡ false) {r : ℕ} (made : r ≡ first 5 (b₅ ∷ b₆ ∷ b₇ ∷ [])) where
     late : given ≡ first 5 (b₅ ∷ b₆ ∷ b₇ ∷ b₈ ∷ b₉ ∷ [])
@@ -66,34 +66,34 @@ module _ (b₂ b₃ b₄ b₅ b₆ b₇ b₈ b₉ : Bool) where
     late = rw (e, f, g)
 
     pub given_made : (r ≡ 0 → ⊥) → r ≡ given
-    given_made h = making-more b₅ b₆ b₇ (b₈ ∷ b₉ ∷ []) made h ∙ sym late
+    given_made h = making_more b₅ b₆ b₇ (b₈ ∷ b₉ ∷ []) made h ∙ sym late
 
     module _ (z : r ≡ 0) where
       last : first 8 (b₈ ∷ b₉ ∷ []) ≡ given
-      last = sym (late ∙ making-none b₅ b₆ b₇ (b₈ ∷ b₉ ∷ []) made z)
+      last = sym (late ∙ making_none b₅ b₆ b₇ (b₈ ∷ b₉ ∷ []) made z)
 
-      pub given-8 : b₈ ≡ true → 8 ≡ given
+      pub given_8 : b₈ ≡ true → 8 ≡ given
       unfolding first
-      given-8 h = rw (h, first) at last
+      given_8 h = rw (h, first) at last
 
-      pub given-9 : b₈ ≡ false → b₉ ≡ true → 9 ≡ given
+      pub given_9 : b₈ ≡ false → b₉ ≡ true → 9 ≡ given
       unfolding first
-      given-9 h k = rw (h, k) at last
+      given_9 h k = rw (h, k) at last
 
-      pub given-0 : b₈ ≡ false → b₉ ≡ false → 0 ≡ given
+      pub given_0 : b₈ ≡ false → b₉ ≡ false → 0 ≡ given
       unfolding first
-      given-0 h k = rw (h, k) at last
+      given_0 h k = rw (h, k) at last
 
 module _ (nodes links : List ℕ) (cells : List ℤ) (rows : ℕ) where
-  pub rows_are : (ws : List ℤ) → refusal true (sightIn nodes links cells rows) ws ≡ first 2 (rowsIn nodes links cells rows (commandOf ws))
+  pub rows_are : (ws : List ℤ) → refusal true (sight_in nodes links cells rows) ws ≡ first 2 (rows_in nodes links cells rows (command_of ws))
   unfolding refusal table first
   rows_are ws =
       rw (
-        wrong-sees nodes links cells rows (commandOf ws),
-        gone-sees nodes links cells rows (commandOf ws),
-        bad-sees nodes links cells rows (commandOf ws),
-        high-sees nodes links cells rows (commandOf ws),
-        room-sees nodes links cells rows (commandOf ws),
-        depth-sees nodes links cells rows (commandOf ws),
-        rows-see nodes links cells rows (commandOf ws),
+        wrong_sees nodes links cells rows (command_of ws),
+        gone_sees nodes links cells rows (command_of ws),
+        bad_sees nodes links cells rows (command_of ws),
+        high_sees nodes links cells rows (command_of ws),
+        room_sees nodes links cells rows (command_of ws),
+        depth_sees nodes links cells rows (command_of ws),
+        rows_see nodes links cells rows (command_of ws),
       )

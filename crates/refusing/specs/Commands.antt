@@ -1,7 +1,7 @@
 -- Document 01, "Commands": the code's enum beside the commands of `meaning`. The cells of a formula stay in the words.
 use Rattle.std.specs.Prelude.{Bool, true, false, cond, List, ℕ, ◌%◌, eqb, ℤ, drop}
 use Rattle.std.proofs.Math.Option.{Option, none, some}
-use Rattle.meaning.specs.Words.{Command as Meant, makeSignal, makeComputed, makeEffect, makeScope, set_to, addTo, read_of, disposeOf, batchStart, batchEnd}
+use Rattle.meaning.specs.Words.{Command as Meant, make_signal, make_computed, make_effect, make_scope, set_to, add_to, read_of, dispose_of, batch_start, batch_end}
 use Rattle.refusing.specs.declared.commands.Command.{Command}
 use Rattle.refusing.specs.declared.commands.Command.TheVariants.{Signal, Computed, Effect, Scope, Set, Add, Read, Dispose, Start, End, Unknown}
 
@@ -20,8 +20,8 @@ number_of End = 10
 number_of Unknown = 0
 
 -- whether so many words are as many as the command of this code takes
-unfoldable pub takesWords : ℕ → ℕ → Bool
-takesWords c n =
+unfoldable pub takes_words : ℕ → ℕ → Bool
+takes_words c n =
     cond (eqb c 1) (eqb n 2)
     (cond (eqb c 2) (eqb (n % 2) 1)
     (cond (eqb c 3) (eqb (n % 2) 0)
@@ -39,8 +39,8 @@ only_if true c = c
 only_if false c = 0
 
 -- the command of a number, with the two words after its code
-unfoldable pub commandBy : ℕ → ℤ → ℤ → Command
-commandBy k a b =
+unfoldable pub command_by : ℕ → ℤ → ℤ → Command
+command_by k a b =
     cond (eqb k 1) (Signal a)
     (cond (eqb k 2) Computed
     (cond (eqb k 3) (Effect a)
@@ -55,27 +55,27 @@ commandBy k a b =
 -- a command without its cells
 unfoldable pub brief : Option Meant → Command
 brief none = Unknown
-brief (some (makeSignal k)) = Signal k
-brief (some (makeComputed cs)) = Computed
-brief (some (makeEffect o cs)) = Effect o
-brief (some (makeScope o)) = Scope o
+brief (some (make_signal k)) = Signal k
+brief (some (make_computed cs)) = Computed
+brief (some (make_effect o cs)) = Effect o
+brief (some (make_scope o)) = Scope o
 brief (some (set_to n k)) = Set n k
-brief (some (addTo n k)) = Add n k
+brief (some (add_to n k)) = Add n k
 brief (some (read_of n)) = Read n
-brief (some (disposeOf n)) = Dispose n
-brief (some batchStart) = Start
-brief (some batchEnd) = End
+brief (some (dispose_of n)) = Dispose n
+brief (some batch_start) = Start
+brief (some batch_end) = End
 
 -- and with them: those of a computed follow the code, those of an effect the owner
 unfoldable pub told : Command → List ℤ → Option Meant
-told (Signal k) ws = some (makeSignal k)
-told Computed ws = some (makeComputed (drop 1 ws))
-told (Effect o) ws = some (makeEffect o (drop 2 ws))
-told (Scope o) ws = some (makeScope o)
+told (Signal k) ws = some (make_signal k)
+told Computed ws = some (make_computed (drop 1 ws))
+told (Effect o) ws = some (make_effect o (drop 2 ws))
+told (Scope o) ws = some (make_scope o)
 told (Set n k) ws = some (set_to n k)
-told (Add n k) ws = some (addTo n k)
+told (Add n k) ws = some (add_to n k)
 told (Read n) ws = some (read_of n)
-told (Dispose n) ws = some (disposeOf n)
-told Start ws = some batchStart
-told End ws = some batchEnd
+told (Dispose n) ws = some (dispose_of n)
+told Start ws = some batch_start
+told End ws = some batch_end
 told Unknown ws = none

@@ -6,24 +6,24 @@ use mathlib.Core.List.{List, [], ◌∷◌}
 use Prim.Native.Nat.{ℕ}
 use lib.IntN.{ℤ, pos}
 use lib.ListN.{set}
-use Rattle.primitive.specs.Rows.{field, hasField}
-use Rattle.queue.specs.Queue.{count, queueOf, entries, entry_at}
-use Rattle.trees.specs.Cells.{read_of, bareOf, codes, cell_of, name_of, cell_at}
-use Rattle.trees.specs.Legal.{readKind, readableIn}
+use Rattle.primitive.specs.Rows.{field, has_field}
+use Rattle.queue.specs.Queue.{count, queue_of, entries, entry_at}
+use Rattle.trees.specs.Cells.{read_of, bare_of, codes, cell_of, name_of, cell_at}
+use Rattle.trees.specs.Legal.{read_kind, readable_in}
 use Rattle.trees.specs.Names.{named}
-use Rattle.counting.specs.Counts.{countedIn}
+use Rattle.counting.specs.Counts.{counted_in}
 use Rattle.lists.specs.Sum.{sum}
 use Rattle.lists.specs.Walk.{slots, run, runs}
 use Rattle.lists.specs.Each.{every, along, tally}
 use Rattle.lists.specs.Once.{scan, stamp}
 use Rattle.resting.specs.Blank.{blank}
-use Rattle.resting.specs.Linked.{isLive, fits, spare, walks, frees, linkedIn}
-use Rattle.resting.specs.Depends.{ownerIs, mayDepend, dependsOn, dependsAt, only_to, ownedOn, ownedAt}
-use Rattle.resting.specs.Named.{readsFrom, names_of, stampNode, stamped, linksStamped, namedFrom, named_in}
-use Rattle.resting.specs.Flagged.{signalFlags, computedFlags, effectFlags, goneFlags, flagsOn}
-use Rattle.resting.specs.Queued.{waitsOn, mayWait, lives, due, scanned, idle, queuedIn}
-use Rattle.resting.specs.Joined.{flaggedAt, restsAt, restIn, joinedIn}
-use Rattle.resting.specs.AtRest.{subsOf, depsOf}
+use Rattle.resting.specs.Linked.{is_live_slot, fits, spare, walks, frees, linked_in}
+use Rattle.resting.specs.Depends.{owner_is, may_depend, depends_on, depends_at, only_to, owned_on, owned_at}
+use Rattle.resting.specs.Named.{reads_from, names_of, stamp_node, stamped, links_stamped, named_from, named_in}
+use Rattle.resting.specs.Flagged.{signal_flags, computed_flags, effect_flags, gone_flags, flags_on}
+use Rattle.resting.specs.Queued.{waits_on, may_wait, lives, due, scanned, idle, queued_in}
+use Rattle.resting.specs.Joined.{flagged_at, rests_at, rest_in, joined_in}
+use Rattle.resting.specs.AtRest.{subs_of, deps_of}
 
 nodes : List ℕ
 nodes =
@@ -61,80 +61,80 @@ lone : List ℤ
 lone = pos 1 ∷ pos 7 ∷ []
 
 -- the lists that are decoded
-subs-of-signal : subsOf nodes links 0 ≡ 0 ∷ 1 ∷ 3 ∷ []
-unfolding nodes links slots field hasField
-subs-of-signal = refl
+subs_of_signal : subs_of nodes links 0 ≡ 0 ∷ 1 ∷ 3 ∷ []
+unfolding nodes links slots field has_field
+subs_of_signal = refl
 
-deps-of-effect : depsOf nodes links 2 ≡ 0 ∷ 2 ∷ 3 ∷ []
-unfolding nodes links slots field hasField
-deps-of-effect = refl
+deps_of_effect : deps_of nodes links 2 ≡ 0 ∷ 2 ∷ 3 ∷ []
+unfolding nodes links slots field has_field
+deps_of_effect = refl
 
 passing : List Bool
 passing =
     -- as they stand
-    joinedIn nodes links cells ∷
+    joined_in nodes links cells ∷
     -- the signal is set, and the computed may have to be worked out again
-    joinedIn (set (set nodes 16 17) 32 33) links cells ∷
+    joined_in (set (set nodes 16 17) 32 33) links cells ∷
     -- inside a batch the effect waits in the queue
-    joinedIn (set (set (set (set nodes 9 1) 12 1) 28 2) 48 48) links cells ∷
+    joined_in (set (set (set (set nodes 9 1) 12 1) 28 2) 48 48) links cells ∷
     -- words without meaning: a spare column, an entry past the queue, the formula of a signal, a free slot, the cycle
-    joinedIn (set (set (set nodes 29 5) 44 99) 23 88) (set (set links 0 55) 41 1) cells ∷
+    joined_in (set (set (set nodes 29 5) 44 99) 23 88) (set (set links 0 55) 41 1) cells ∷
     -- as they stand: the gone effect 2 has flags 0 and is not queued
-    joinedIn owned owns lone ∷
+    joined_in owned owns lone ∷
     -- it is still queued
-    joinedIn (set (set (set owned 9 1) 12 1) 28 2) owns lone ∷
+    joined_in (set (set (set owned 9 1) 12 1) 28 2) owns lone ∷
     -- the owner waits with flags 0
-    joinedIn (set (set (set owned 9 1) 12 1) 16 0) owns lone ∷
+    joined_in (set (set (set owned 9 1) 12 1) 16 0) owns lone ∷
     []
 
 all_pass : passing ≡ true ∷ true ∷ true ∷ true ∷ true ∷ true ∷ true ∷ []
 unfolding passing nodes links cells owned owns lone
-    joinedIn restIn restsAt linkedIn walks frees run runs fits spare isLive dependsAt dependsOn mayDepend ownerIs ownedAt ownedOn only_to flaggedAt flagsOn signalFlags computedFlags effectFlags goneFlags readsFrom named_in namedFrom names_of stampNode linksStamped stamped queuedIn scanned idle due mayWait waitsOn lives blank every along tally scan stamp sum countedIn count queueOf entries entry_at readableIn readKind named name_of cell_at cell_of codes read_of bareOf field hasField
+    joined_in rest_in rests_at linked_in walks frees run runs fits spare is_live_slot depends_at depends_on may_depend owner_is owned_at owned_on only_to flagged_at flags_on signal_flags computed_flags effect_flags gone_flags reads_from named_in named_from names_of stamp_node links_stamped stamped queued_in scanned idle due may_wait waits_on lives blank every along tally scan stamp sum counted_in count queue_of entries entry_at readable_in read_kind named name_of cell_at cell_of codes read_of bare_of field has_field
 all_pass = refl
 
 refused : List Bool
 refused =
     -- slot 3 points back at slot 0 in place of slot 1
-    joinedIn nodes (set links 35 1) cells ∷
+    joined_in nodes (set links 35 1) cells ∷
     -- the signal's tail is slot 2
-    joinedIn (set nodes 22 3) links cells ∷
+    joined_in (set nodes 22 3) links cells ∷
     -- the free list is cut off
-    joinedIn nodes (set links 6 0) cells ∷
+    joined_in nodes (set links 6 0) cells ∷
     -- the free list goes round
-    joinedIn nodes (set links 46 5) cells ∷
+    joined_in nodes (set links 46 5) cells ∷
     -- the signal's list goes round
-    joinedIn nodes (set links 36 1) cells ∷
+    joined_in nodes (set links 36 1) cells ∷
     -- a computed with dependencies has flags 17
-    joinedIn (set nodes 32 17) links cells ∷
+    joined_in (set nodes 32 17) links cells ∷
     -- the effect lost WATCHING and is not queued
-    joinedIn (set nodes 48 32) links cells ∷
+    joined_in (set nodes 48 32) links cells ∷
     -- it is queued with WATCHING
-    joinedIn (set (set (set nodes 9 1) 12 1) 28 2) links cells ∷
+    joined_in (set (set (set nodes 9 1) 12 1) 28 2) links cells ∷
     -- it is queued twice
-    joinedIn (set (set (set (set (set nodes 9 1) 12 2) 28 2) 44 2) 48 32) links cells ∷
+    joined_in (set (set (set (set (set nodes 9 1) 12 2) 28 2) 44 2) 48 32) links cells ∷
     -- it is queued at depth 0
-    joinedIn (set (set (set nodes 12 1) 28 2) 48 32) links cells ∷
+    joined_in (set (set (set nodes 12 1) 28 2) 48 32) links cells ∷
     -- batches nest 65 deep
-    joinedIn (set nodes 9 65) links cells ∷
+    joined_in (set nodes 9 65) links cells ∷
     -- the effect has two read cells and three read links
-    joinedIn (set nodes 57 2) links cells ∷
+    joined_in (set nodes 57 2) links cells ∷
     -- the computed is a signal, which depends on nothing
-    joinedIn (set nodes 33 1) links cells ∷
+    joined_in (set nodes 33 1) links cells ∷
     -- the cell that reads node 1 is a constant, and a link goes there
-    joinedIn nodes links (set cells 8 (pos 1)) ∷
+    joined_in nodes links (set cells 8 (pos 1)) ∷
     -- effect 1 is not owned, and has a subscriber link
-    joinedIn (set owned 42 0) owns lone ∷
+    joined_in (set owned 42 0) owns lone ∷
     -- effect 1 is gone, and has one
-    joinedIn (set owned 34 1) owns lone ∷
+    joined_in (set owned 34 1) owns lone ∷
     -- effect 2 lives, and has none
-    joinedIn (set (set owned 50 0) 48 2) owns lone ∷
+    joined_in (set (set owned 50 0) 48 2) owns lone ∷
     -- the gone effect is queued with flags 2
-    joinedIn (set (set (set (set owned 9 1) 12 1) 28 2) 48 2) owns lone ∷
+    joined_in (set (set (set (set owned 9 1) 12 1) 28 2) 48 2) owns lone ∷
     -- the owner is queued with flags 32 and has no read link: an owned node is not enough
-    joinedIn (set (set (set owned 9 1) 12 1) 16 32) owns lone ∷
+    joined_in (set (set (set owned 9 1) 12 1) 16 32) owns lone ∷
     []
 
-all-refused : refused ≡ false ∷ false ∷ false ∷ false ∷ false ∷ false ∷ false ∷ false ∷ false ∷ false ∷ false ∷ false ∷ false ∷ false ∷ false ∷ false ∷ false ∷ false ∷ false ∷ []
+all_refused : refused ≡ false ∷ false ∷ false ∷ false ∷ false ∷ false ∷ false ∷ false ∷ false ∷ false ∷ false ∷ false ∷ false ∷ false ∷ false ∷ false ∷ false ∷ false ∷ false ∷ []
 unfolding refused nodes links cells owned owns lone
-    joinedIn restIn restsAt linkedIn walks frees run runs fits spare isLive dependsAt dependsOn mayDepend ownerIs ownedAt ownedOn only_to flaggedAt flagsOn signalFlags computedFlags effectFlags goneFlags readsFrom named_in namedFrom names_of stampNode linksStamped stamped queuedIn scanned idle due mayWait waitsOn lives blank every along tally scan stamp sum countedIn count queueOf entries entry_at readableIn readKind named name_of cell_at cell_of codes read_of bareOf field hasField
-all-refused = refl
+    joined_in rest_in rests_at linked_in walks frees run runs fits spare is_live_slot depends_at depends_on may_depend owner_is owned_at owned_on only_to flagged_at flags_on signal_flags computed_flags effect_flags gone_flags reads_from named_in named_from names_of stamp_node links_stamped stamped queued_in scanned idle due may_wait waits_on lives blank every along tally scan stamp sum counted_in count queue_of entries entry_at readable_in read_kind named name_of cell_at cell_of codes read_of bare_of field has_field
+all_refused = refl

@@ -4,12 +4,12 @@ use Rattle.primitive.specs.Words.{SIGNAL, COMPUTED, EFFECT, SCOPE}
 use Rattle.lists.specs.Each.{pick}
 
 -- signal 1 or 17
-unfoldable pub signalFlags : ℕ → Bool
-signalFlags f = pick (eqb f 1) true (eqb f 17)
+unfoldable pub signal_flags : ℕ → Bool
+signal_flags f = pick (eqb f 1) true (eqb f 17)
 
 -- computed 0 (no links), 1, 17 (no dependencies), 33 or 49 (at least one)
-unfoldable pub computedFlags : ℕ → ℕ → ℕ → Bool
-computedFlags f deps subs =
+unfoldable pub computed_flags : ℕ → ℕ → ℕ → Bool
+computed_flags f deps subs =
     pick (eqb f 0) (pick (eqb deps 0) (eqb subs 0) false)
     (pick (eqb f 1) true
     (pick (eqb f 17) (eqb deps 0)
@@ -18,8 +18,8 @@ computedFlags f deps subs =
     false))))
 
 -- live effect 2, 0, or with a read link 32 or 48; the queue tells 2 from the others
-unfoldable pub effectFlags : ℕ → ℕ → Bool
-effectFlags f reads =
+unfoldable pub effect_flags : ℕ → ℕ → Bool
+effect_flags f reads =
     pick (eqb f 2) true
     (pick (eqb f 0) true
     (pick (eqb f 32) (not (eqb reads 0))
@@ -27,14 +27,14 @@ effectFlags f reads =
     false)))
 
 -- gone effect 0 or 2
-unfoldable pub goneFlags : ℕ → Bool
-goneFlags f = pick (eqb f 0) true (eqb f 2)
+unfoldable pub gone_flags : ℕ → Bool
+gone_flags f = pick (eqb f 0) true (eqb f 2)
 
 -- scope 0
-unfoldable pub flagsOn : ℕ → ℕ → ℕ → ℕ → ℕ → ℕ → Bool
-flagsOn kind gone f deps subs reads =
-    pick (eqb kind SIGNAL) (signalFlags f)
-    (pick (eqb kind COMPUTED) (computedFlags f deps subs)
-    (pick (eqb kind EFFECT) (pick (eqb gone 0) (effectFlags f reads) (goneFlags f))
+unfoldable pub flags_on : ℕ → ℕ → ℕ → ℕ → ℕ → ℕ → Bool
+flags_on kind gone f deps subs reads =
+    pick (eqb kind SIGNAL) (signal_flags f)
+    (pick (eqb kind COMPUTED) (computed_flags f deps subs)
+    (pick (eqb kind EFFECT) (pick (eqb gone 0) (effect_flags f reads) (gone_flags f))
     (pick (eqb kind SCOPE) (eqb f 0)
     false)))

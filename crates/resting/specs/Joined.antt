@@ -2,25 +2,25 @@
 use Rattle.std.specs.Prelude.{ℕ, Bool, List, leb, ℤ}
 use Rattle.primitive.specs.Words.{FLAGS, KIND, GONE, DEPS, SUBS, READS, node}
 use Rattle.lists.specs.Each.{both, every}
-use Rattle.counting.specs.Counts.{countedIn}
-use Rattle.resting.specs.Linked.{linkedIn}
-use Rattle.resting.specs.Depends.{dependsAt, ownedAt}
-use Rattle.resting.specs.Named.{readsFrom, named_in}
-use Rattle.resting.specs.Flagged.{flagsOn}
-use Rattle.resting.specs.Queued.{queuedIn}
+use Rattle.counting.specs.Counts.{counted_in}
+use Rattle.resting.specs.Linked.{linked_in}
+use Rattle.resting.specs.Depends.{depends_at, owned_at}
+use Rattle.resting.specs.Named.{reads_from, named_in}
+use Rattle.resting.specs.Flagged.{flags_on}
+use Rattle.resting.specs.Queued.{queued_in}
 
 -- node n has no more read links than read cells, and flags that its kind may have
-unfoldable pub flaggedAt : List ℕ → List ℕ → ℕ → Bool
-flaggedAt t l n =
-    both (leb (readsFrom t l (node t n DEPS)) (node t n READS))
-    (flagsOn (node t n KIND) (node t n GONE) (node t n FLAGS) (node t n DEPS) (node t n SUBS) (readsFrom t l (node t n DEPS)))
+unfoldable pub flagged_at : List ℕ → List ℕ → ℕ → Bool
+flagged_at t l n =
+    both (leb (reads_from t l (node t n DEPS)) (node t n READS))
+    (flags_on (node t n KIND) (node t n GONE) (node t n FLAGS) (node t n DEPS) (node t n SUBS) (reads_from t l (node t n DEPS)))
 
 -- what is asked of node n alone
-unfoldable pub restsAt : List ℕ → List ℕ → ℕ → Bool
-restsAt t l n = both (dependsAt t l n) (both (ownedAt t l n) (flaggedAt t l n))
+unfoldable pub rests_at : List ℕ → List ℕ → ℕ → Bool
+rests_at t l n = both (depends_at t l n) (both (owned_at t l n) (flagged_at t l n))
 
-unfoldable pub restIn : List ℕ → List ℕ → Bool
-restIn t l = every (restsAt t l) (countedIn t)
+unfoldable pub rest_in : List ℕ → List ℕ → Bool
+rest_in t l = every (rests_at t l) (counted_in t)
 
-unfoldable pub joinedIn : List ℕ → List ℕ → List ℤ → Bool
-joinedIn t l c = both (linkedIn t l) (both (restIn t l) (both (named_in t l c) (queuedIn t)))
+unfoldable pub joined_in : List ℕ → List ℕ → List ℤ → Bool
+joined_in t l c = both (linked_in t l) (both (rest_in t l) (both (named_in t l c) (queued_in t)))

@@ -3,7 +3,7 @@ pub mod packed;
 pub mod turns;
 
 ghost use Rattle.std.specs.Prelude.{◌≡◌};
-ghost use Rattle.script.specs.Turns.{tables, turned, turnIn};
+ghost use Rattle.script.specs.Turns.{tables, turned, turn_in};
 
 use crate::turns::Turn;
 use engine::command::command;
@@ -23,7 +23,7 @@ pub fn turn(
     window: &[u8],
     over: bool,
 ) -> Turn
-    ensures { turned result (tables nodes.new links.new values.new cells.new log.new) words.new out.new ≡ turnIn (tables nodes.old links.old values.old cells.old log.old) words.old out.old window.now over }
+    ensures { turned result (tables nodes.new links.new values.new cells.new log.new) words.new out.new ≡ turn_in (tables nodes.old links.old values.old cells.old log.old) words.old out.old window.now over }
 {
     match pair(window, words) {
         Found::Short => {

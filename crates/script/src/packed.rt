@@ -1,7 +1,7 @@
 // One step in a stream of many scripts: what its window asks for, done on lent tables.
 ghost use Rattle.std.specs.Prelude.{◌≡◌};
 ghost use Rattle.script.specs.Turns.{tables};
-ghost use Rattle.script.specs.Packed.{step_of, played, playIn};
+ghost use Rattle.script.specs.Packed.{step_of, played, play_in};
 
 use crate::turn;
 use crate::turns::Turn;
@@ -46,7 +46,7 @@ pub fn play(
     over: bool,
     place: Place,
 ) -> Step
-    ensures { played result (tables nodes.new links.new values.new cells.new log.new) words.new out.new ≡ playIn (tables nodes.old links.old values.old cells.old log.old) words.old out.old window.now over place }
+    ensures { played result (tables nodes.new links.new values.new cells.new log.new) words.new out.new ≡ play_in (tables nodes.old links.old values.old cells.old log.old) words.old out.old window.now over place }
 {
     match decide(window, over, place) {
         Act::Read => Step::Read,

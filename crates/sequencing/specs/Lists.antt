@@ -2,7 +2,7 @@
 use Rattle.std.specs.Prelude.{true, false, List, [], ◌∷◌, ℕ, leb, ℤ, length, take, drop}
 use Rattle.trees.specs.declared.cells.Number.{Number}
 use Rattle.trees.specs.declared.cells.Number.TheVariants.{Is, None}
-use Rattle.trees.specs.Cells.{naturalOf}
+use Rattle.trees.specs.Cells.{natural_of}
 use Rattle.sequencing.specs.declared.list.Next.{Next}
 use Rattle.sequencing.specs.declared.list.Next.TheVariants.{Over, Bad, Words}
 
@@ -11,9 +11,9 @@ unfoldable pub words_of : Number → ℕ → Next
 words_of None left = Bad
 words_of (Is k) left = elim (leb k left) [ true ↦ Words k | false ↦ Bad ]
 
-unfoldable pub nextIn : List ℤ → Next
-nextIn [] = Over
-nextIn (k ∷ rest) = words_of (naturalOf k) (length rest)
+unfoldable pub next_in : List ℤ → Next
+next_in [] = Over
+next_in (k ∷ rest) = words_of (natural_of k) (length rest)
 
 -- the k words of the first command
 abbrev pub first_of : ℕ → List ℤ → List ℤ

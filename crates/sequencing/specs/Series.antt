@@ -1,12 +1,12 @@
--- Many commands, one by one: each as `commandIn` answers it on what the one before it left.
+-- Many commands, one by one: each as `command_in` answers it on what the one before it left.
 use Rattle.std.specs.Prelude.{List, ◌++◌, ℕ, zero, suc, ◌+◌, ◌*◌, ℤ, length, take, drop}
-use Rattle.operating.specs.Log.{rowWords}
-use Rattle.commanding.specs.Command.{commandIn}
+use Rattle.operating.specs.Log.{row_words}
+use Rattle.commanding.specs.Command.{command_in}
 use Rattle.sequencing.specs.declared.steps.Why.{Why}
 use Rattle.sequencing.specs.declared.steps.Why.TheVariants.{Over}
 use Rattle.sequencing.specs.declared.steps.Step.{Step}
 use Rattle.sequencing.specs.declared.steps.Step.TheVariants.{Stopped, Done}
-use Rattle.sequencing.specs.Steps.{answerWords, Stepped, stepBy}
+use Rattle.sequencing.specs.Steps.{answer_words, Stepped, step_by}
 
 -- every lent word, and how far it is: words of the list used, commands done, rows written
 pub record Going : Type 0 where
@@ -33,20 +33,20 @@ ended w s = record { why = w; after = s }
 -- the next command is lent what is left of the rows and of the answers
 unfoldable pub step_of : List ℤ → Going → Stepped
 step_of list s =
-    let g = drop (s.ran * rowWords) s.rows in
-    let y = drop (s.done * answerWords) s.answers in
-    stepBy (commandIn s.nodes s.links s.values s.cells g) s.nodes s.links s.values s.cells g (drop s.used list) y
+    let g = drop (s.ran * row_words) s.rows in
+    let y = drop (s.done * answer_words) s.answers in
+    step_by (command_in s.nodes s.links s.values s.cells g) s.nodes s.links s.values s.cells g (drop s.used list) y
 
 -- after it: k words more are used, r rows more are written
 unfoldable pub further : Going → ℕ → ℕ → Stepped → Going
 further s k r t =
-    going t.nodes t.links t.values t.cells (take (s.ran * rowWords) s.rows ++ t.log) (take (s.done * answerWords) s.answers ++ t.answers) (s.used + k) (s.done + 1) (s.ran + r)
+    going t.nodes t.links t.values t.cells (take (s.ran * row_words) s.rows ++ t.log) (take (s.done * answer_words) s.answers ++ t.answers) (s.used + k) (s.done + 1) (s.ran + r)
 
 -- at most k commands
-unfoldable pub seriesFrom : ℕ → List ℤ → Going → Ended
-seriesFrom zero list s = ended Over s
-seriesFrom (suc k) list s = elim (step_of list s).step [ Stopped why ↦ ended why s | Done words runs ↦ seriesFrom k list (further s words runs (step_of list s)) ]
+unfoldable pub series_from : ℕ → List ℤ → Going → Ended
+series_from zero list s = ended Over s
+series_from (suc k) list s = elim (step_of list s).step [ Stopped why ↦ ended why s | Done words runs ↦ series_from k list (further s words runs (step_of list s)) ]
 
 -- a list has no more commands than words
-unfoldable pub seriesIn : List ℕ → List ℕ → List ℤ → List ℤ → List ℤ → List ℤ → List ℤ → Ended
-seriesIn n l v c rows list answers = seriesFrom (length list) list (going n l v c rows answers 0 0 0)
+unfoldable pub series_in : List ℕ → List ℕ → List ℤ → List ℤ → List ℤ → List ℤ → List ℤ → Ended
+series_in n l v c rows list answers = series_from (length list) list (going n l v c rows answers 0 0 0)

@@ -3,7 +3,7 @@ pub mod list;
 pub mod steps;
 
 ghost use Rattle.std.specs.Prelude.{◌≡◌};
-ghost use Rattle.sequencing.specs.Series.{going, ended, seriesIn};
+ghost use Rattle.sequencing.specs.Series.{going, ended, series_in};
 
 use crate::steps::{ANSWER, one};
 use engine::tables::well_formed;
@@ -32,7 +32,7 @@ pub fn series(
     list: &[i64],
     answers: &mut [i64],
 ) -> Ended
-    ensures { ended result.why (going nodes.new links.new values.new cells.new rows.new answers.new result.used result.done result.rows) ≡ seriesIn nodes.old links.old values.old cells.old rows.old list.now answers.old }
+    ensures { ended result.why (going nodes.new links.new values.new cells.new rows.new answers.new result.used result.done result.rows) ≡ series_in nodes.old links.old values.old cells.old rows.old list.now answers.old }
 {
     let formed = well_formed(nodes, links, values, cells);
     let mut used: usize = 0;

@@ -1,6 +1,6 @@
 // The list of commands: for each the number of its words, then these.
 ghost use Rattle.std.specs.Prelude.{◌≡◌};
-ghost use Rattle.sequencing.specs.Lists.{nextIn};
+ghost use Rattle.sequencing.specs.Lists.{next_in};
 
 use formula::cells::natural;
 use primitive::words::signed_at;
@@ -8,7 +8,7 @@ use sequencing::list::Next;
 use trees::cells::Number;
 
 pub fn head(list: &[i64]) -> Next
-    ensures { result ≡ nextIn list.now }
+    ensures { result ≡ next_in list.now }
 {
     let n = list.len();
     if n == 0 {

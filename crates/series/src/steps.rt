@@ -1,7 +1,7 @@
 // One step of a series: the first command of a list.
 ghost use Rattle.std.specs.Prelude.{◌≡◌};
-ghost use Rattle.commanding.specs.Command.{commandOn};
-ghost use Rattle.sequencing.specs.Steps.{written, stepped, stepBy};
+ghost use Rattle.commanding.specs.Command.{command_on};
+ghost use Rattle.sequencing.specs.Steps.{written, stepped, step_by};
 
 use crate::list::head;
 use engine::command::command_on;
@@ -40,7 +40,7 @@ pub fn one(
     answers: &mut [i64],
     formed: bool,
 ) -> Step
-    ensures { stepped result nodes.new links.new values.new cells.new log.new answers.new ≡ stepBy (commandOn formed nodes.old links.old values.old cells.old log.old) nodes.old links.old values.old cells.old log.old list.now answers.old }
+    ensures { stepped result nodes.new links.new values.new cells.new log.new answers.new ≡ step_by (command_on formed nodes.old links.old values.old cells.old log.old) nodes.old links.old values.old cells.old log.old list.now answers.old }
 {
     match head(list) {
         Next::Over => Step::Stopped(Why::Over),

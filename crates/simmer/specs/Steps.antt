@@ -3,7 +3,7 @@ use Rattle.std.specs.Prelude.{ℕ, ◌+◌, ◌<◌, ◌≤◌, min, max, ◌≡
 use Rattle.stream.specs.Windows.{Filled, unread}
 use Rattle.script.specs.declared.turns.Turn.{Turn}
 use Rattle.script.specs.declared.turns.Turn.TheVariants.{More, Answered, Ended}
-use Rattle.script.specs.Turns.{Turned, Tables, turned, turnIn}
+use Rattle.script.specs.Turns.{Turned, Tables, turned, turn_in}
 
 -- what is lent to a step, and the window on the input
 pub record Lent : Type 0 where
@@ -25,7 +25,7 @@ Goes (Answered used bytes) x y on = (y.at ≡ min (x.at + used) (max x.at x.end)
 Goes (Ended bytes) x y on = (y.at ≡ x.at) × (y.end ≡ x.end) × (y.over ≡ x.over) × (y.buf ≡ x.buf) × (on ≡ false)
 
 abbrev pub turn_of : Lent → Turned
-turn_of x = turnIn x.tables x.words x.out (unread x.buf x.at x.end) x.over
+turn_of x = turn_in x.tables x.words x.out (unread x.buf x.at x.end) x.over
 
 -- x before and y after it; on: the run goes on
 pub record Stepped (x y : Lent) (on : Bool) : Type 0 where

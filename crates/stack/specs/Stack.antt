@@ -7,8 +7,8 @@ use Rattle.stack.specs.declared.Popped.TheVariants.{Top, Empty}
 abbrev pub pushed : List ℕ → ℕ → ℕ → List ℕ
 pushed s len w = set s len w
 
-unfoldable pub pushedLen : List ℕ → ℕ → ℕ
-pushedLen s len = elim (ltb len (length s)) [ true ↦ suc len | false ↦ len ]
+unfoldable pub pushed_len : List ℕ → ℕ → ℕ
+pushed_len s len = elim (ltb len (length s)) [ true ↦ suc len | false ↦ len ]
 
 unfoldable pub popped : List ℕ → ℕ → Popped
 popped s zero = Empty

@@ -1,6 +1,6 @@
 // A bounded stack of words in a lent slice, of which the first `len` are in use.
 ghost use Rattle.std.specs.Prelude.{◌≡◌};
-ghost use Rattle.stack.specs.Stack.{pushed, pushedLen, popped};
+ghost use Rattle.stack.specs.Stack.{pushed, pushed_len, popped};
 
 #[derive(Drop)]
 pub enum Popped {
@@ -11,7 +11,7 @@ pub enum Popped {
 
 // How many are in use then. A full stack stays as it is.
 pub fn push(s: &mut [u64], len: u64, w: u64) -> u64
-    ensures { (result ≡ pushedLen s.old len) × (s.new ≡ pushed s.old len w) }
+    ensures { (result ≡ pushed_len s.old len) × (s.new ≡ pushed s.old len w) }
 {
     let k = len as usize;
     if k < s.len() {

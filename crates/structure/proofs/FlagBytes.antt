@@ -7,9 +7,9 @@ use lib.Dec.{eqb, ltb}
 use borrow.Author.Tests.{eqb-true, ltb-true}
 use Rattle.flags.specs.declared.Named.{Named}
 use Rattle.flags.specs.Flags.{bit, named}
-use Rattle.flags.proofs.FlagLaws.{names-all}
-use Rattle.marking.specs.Fields.{mutable, watching, recursedCheck, dirty, pending, busy, changed, has, lacks, hasOnly, without}
-use Rattle.meaning.specs.State.{bare, unclean, recursing, withPending, withDirty, withWatching}
+use Rattle.flags.proofs.FlagLaws.{names_all}
+use Rattle.marking.specs.Fields.{mutable, watching, recursed_checking, dirty, pending, busy, changed, has, lacks, has_only, without}
+use Rattle.meaning.specs.State.{bare, unclean, recursing, with_pending, with_dirty, with_watching}
 use Rattle.meaning.specs.Played.{byte}
 use Rattle.meaning.proofs.Laws.{false≢true}
 
@@ -35,8 +35,8 @@ both_at : (q : Bool → Bool) → both q ≡ true → (b : Bool) → q b ≡ tru
 both_at q e true = first (q true) (q false) e
 both_at q e false = second (q true) (q false) e
 
-all-at : (p : Named → Bool) → all p ≡ true → (F : Named) → p F ≡ true
-all-at p e F =
+all_at : (p : Named → Bool) → all p ≡ true → (F : Named) → p F ≡ true
+all_at p e F =
     let a = both_at (λ a. both (λ b. both (λ c. both (λ d. both (λ e. both (λ f. p (flags a b c d e f))))))) e F.mutable in
     let b = both_at (λ b. both (λ c. both (λ d. both (λ e. both (λ f. p (flags F.mutable b c d e f)))))) a F.watching in
     let c = both_at (λ c. both (λ d. both (λ e. both (λ f. p (flags F.mutable F.watching c d e f))))) b F.recursed_check in
@@ -56,84 +56,84 @@ alike_same false true e = e
 alike_same false false e = refl
 
 truth : (p q : Named → Bool) → all (λ F. alike (p F) (q F)) ≡ true → (F : Named) → p F ≡ q F
-truth p q e F = alike_same (p F) (q F) (all-at (λ F. alike (p F) (q F)) e F)
+truth p q e F = alike_same (p F) (q F) (all_at (λ F. alike (p F) (q F)) e F)
 
 number : (p q : Named → ℕ) → all (λ F. eqb (p F) (q F)) ≡ true → (F : Named) → p F ≡ q F
-number p q e F = eqb-true (p F) (q F) (all-at (λ F. eqb (p F) (q F)) e F)
+number p q e F = eqb-true (p F) (q F) (all_at (λ F. eqb (p F) (q F)) e F)
 
 -- ---- the byte
 pub byte_low : (F : Named) → byte F < 256
-byte_low F = ltb-true (byte F) 256 (all-at (λ F. ltb (byte F) 256) refl F)
+byte_low F = ltb-true (byte F) 256 (all_at (λ F. ltb (byte F) 256) refl F)
 
-pub byte-mod : (F : Named) → byte F % 256 ≡ byte F
-byte-mod = number (λ F. byte F % 256) byte refl
+pub byte_mod : (F : Named) → byte F % 256 ≡ byte F
+byte_mod = number (λ F. byte F % 256) byte refl
 
-pub named-byte : (F : Named) → named (byte F % 256) ≡ F
+pub named_byte : (F : Named) → named (byte F % 256) ≡ F
 unfolding bit
-named-byte F =
-    sym (names-all (byte F % 256)
+named_byte F =
+    sym (names_all (byte F % 256)
     (truth (λ F. F.mutable) (λ F. bit 0 (byte F % 256)) refl F) (truth (λ F. F.watching) (λ F. bit 1 (byte F % 256)) refl F) (truth (λ F. F.recursed_check) (λ F. bit 2 (byte F % 256)) refl F)
     (truth (λ F. F.recursed) (λ F. bit 3 (byte F % 256)) refl F) (truth (λ F. F.dirty) (λ F. bit 4 (byte F % 256)) refl F) (truth (λ F. F.pending) (λ F. bit 5 (byte F % 256)) refl F))
 
 -- ---- tests
-pub lacks-busy : (F : Named) → lacks (byte F) busy ≡ not (recursing F)
+pub lacks_busy : (F : Named) → lacks (byte F) busy ≡ not (recursing F)
 unfolding lacks
-lacks-busy = truth (λ F. lacks (byte F) busy) (λ F. not (recursing F)) refl
+lacks_busy = truth (λ F. lacks (byte F) busy) (λ F. not (recursing F)) refl
 
-pub lacks-changed : (F : Named) → lacks (byte F) changed ≡ not (unclean F)
+pub lacks_changed : (F : Named) → lacks (byte F) changed ≡ not (unclean F)
 unfolding lacks
-lacks-changed = truth (λ F. lacks (byte F) changed) (λ F. not (unclean F)) refl
+lacks_changed = truth (λ F. lacks (byte F) changed) (λ F. not (unclean F)) refl
 
-pub lacks-watching : (F : Named) → lacks (byte F) watching ≡ not F.watching
+pub lacks_watching : (F : Named) → lacks (byte F) watching ≡ not F.watching
 unfolding lacks
-lacks-watching = truth (λ F. lacks (byte F) watching) (λ F. not F.watching) refl
+lacks_watching = truth (λ F. lacks (byte F) watching) (λ F. not F.watching) refl
 
-pub has-mutable : (F : Named) → has (byte F) mutable ≡ F.mutable
+pub has_mutable : (F : Named) → has (byte F) mutable ≡ F.mutable
 unfolding has
-has-mutable = truth (λ F. has (byte F) mutable) (λ F. F.mutable) refl
+has_mutable = truth (λ F. has (byte F) mutable) (λ F. F.mutable) refl
 
-pub has-watching : (F : Named) → has (byte F) watching ≡ F.watching
+pub has_watching : (F : Named) → has (byte F) watching ≡ F.watching
 unfolding has
-has-watching = truth (λ F. has (byte F) watching) (λ F. F.watching) refl
+has_watching = truth (λ F. has (byte F) watching) (λ F. F.watching) refl
 
-pub has-dirty : (F : Named) → has (byte F) dirty ≡ F.dirty
+pub has_dirty : (F : Named) → has (byte F) dirty ≡ F.dirty
 unfolding has
-has-dirty = truth (λ F. has (byte F) dirty) (λ F. F.dirty) refl
+has_dirty = truth (λ F. has (byte F) dirty) (λ F. F.dirty) refl
 
-pub has-pending : (F : Named) → has (byte F) pending ≡ F.pending
+pub has_pending : (F : Named) → has (byte F) pending ≡ F.pending
 unfolding has
-has-pending = truth (λ F. has (byte F) pending) (λ F. F.pending) refl
+has_pending = truth (λ F. has (byte F) pending) (λ F. F.pending) refl
 
 -- pending and not dirty
-pub only-pending : (F : Named) → hasOnly (byte F) changed pending ≡ (F.pending && not F.dirty)
-unfolding hasOnly
-only-pending = truth (λ F. hasOnly (byte F) changed pending) (λ F. F.pending && not F.dirty) refl
+pub only_pending : (F : Named) → has_only (byte F) changed pending ≡ (F.pending && not F.dirty)
+unfolding has_only
+only_pending = truth (λ F. has_only (byte F) changed pending) (λ F. F.pending && not F.dirty) refl
 
 -- it watches and is not being checked
-pub only-watching : (F : Named) → hasOnly (byte F) (bit_or watching recursedCheck) watching ≡ (F.watching && not F.recursed_check)
-unfolding hasOnly
-only-watching = truth (λ F. hasOnly (byte F) (bit_or watching recursedCheck) watching) (λ F. F.watching && not F.recursed_check) refl
+pub only_watching : (F : Named) → has_only (byte F) (bit_or watching recursed_checking) watching ≡ (F.watching && not F.recursed_check)
+unfolding has_only
+only_watching = truth (λ F. has_only (byte F) (bit_or watching recursed_checking) watching) (λ F. F.watching && not F.recursed_check) refl
 
-pub is-stale : (F : Named) → hasOnly (byte F) 17 17 ≡ (F.mutable && F.dirty)
-unfolding hasOnly
-is-stale = truth (λ F. hasOnly (byte F) 17 17) (λ F. F.mutable && F.dirty) refl
+pub is_stale : (F : Named) → has_only (byte F) 17 17 ≡ (F.mutable && F.dirty)
+unfolding has_only
+is_stale = truth (λ F. has_only (byte F) 17 17) (λ F. F.mutable && F.dirty) refl
 
-pub is-unsure : (F : Named) → hasOnly (byte F) 33 33 ≡ (F.mutable && F.pending)
-unfolding hasOnly
-is-unsure = truth (λ F. hasOnly (byte F) 33 33) (λ F. F.mutable && F.pending) refl
+pub is_unsure : (F : Named) → has_only (byte F) 33 33 ≡ (F.mutable && F.pending)
+unfolding has_only
+is_unsure = truth (λ F. has_only (byte F) 33 33) (λ F. F.mutable && F.pending) refl
 
-pub is-bare : (F : Named) → eqb (byte F) 0 ≡ bare F
-is-bare = truth (λ F. eqb (byte F) 0) bare refl
+pub is_bare : (F : Named) → eqb (byte F) 0 ≡ bare F
+is_bare = truth (λ F. eqb (byte F) 0) bare refl
 
 -- ---- stores
-pub or-pending : (F : Named) → bit_or (byte F) pending ≡ byte (withPending F true)
-or-pending = number (λ F. bit_or (byte F) pending) (λ F. byte (withPending F true)) refl
+pub or_pending : (F : Named) → bit_or (byte F) pending ≡ byte (with_pending F true)
+or_pending = number (λ F. bit_or (byte F) pending) (λ F. byte (with_pending F true)) refl
 
-pub or-dirty : (F : Named) → bit_or (byte F) dirty ≡ byte (withDirty F true)
-or-dirty = number (λ F. bit_or (byte F) dirty) (λ F. byte (withDirty F true)) refl
+pub or_dirty : (F : Named) → bit_or (byte F) dirty ≡ byte (with_dirty F true)
+or_dirty = number (λ F. bit_or (byte F) dirty) (λ F. byte (with_dirty F true)) refl
 
-pub without-watching : (F : Named) → without (byte F) watching ≡ byte (withWatching F false)
-without-watching = number (λ F. without (byte F) watching) (λ F. byte (withWatching F false)) refl
+pub without_watching : (F : Named) → without (byte F) watching ≡ byte (with_watching F false)
+without_watching = number (λ F. without (byte F) watching) (λ F. byte (with_watching F false)) refl
 
-pub without-pending : (F : Named) → without (byte F) pending ≡ byte (withPending F false)
-without-pending = number (λ F. without (byte F) pending) (λ F. byte (withPending F false)) refl
+pub without_pending : (F : Named) → without (byte F) pending ≡ byte (with_pending F false)
+without_pending = number (λ F. without (byte F) pending) (λ F. byte (with_pending F false)) refl

@@ -5,7 +5,7 @@ use mathlib.Core.List.{List, []}
 use Prim.Native.Nat.{ℕ, ◌<◌}
 use lib.IntN.{ℤ}
 use Rattle.reading.specs.Tables.{State}
-use Rattle.reading.specs.Read.{refreshed, checked, evaluatedFor}
+use Rattle.reading.specs.Read.{refreshed, checked, evaluated_for}
 use Rattle.meaning.specs.State.{St, effect, readable, deps, f6}
 use Rattle.meaning.specs.Reads.{settle, check, evaluate}
 use Rattle.meaning.proofs.Still.{Given}
@@ -24,4 +24,4 @@ pub record Ringed (g : Given) (st : Static g) (C : List ℤ) : Type 0 where
       → Sees ran (checked C x e).after C (check s e).st × ((checked C x e).changed ≡ (check s e).yes)
   -- the evaluation of an effect under way, whose flags are 6 and stay so
   pub evaluates : (ran : List ℕ) (x : State) (s : St) (e : ℕ) → e < g.size → g.kind e ≡ effect → During g st (Run g st e) e s 0 s → s.stuck ≡ false → s.fl e ≡ f6 → Sees ran x C s
-      → Sees ran (evaluatedFor C x e).after C (evaluate s e).st × ((evaluatedFor C x e).value ≡ (evaluate s e).val) × ((evaluate s e).st.fl e ≡ f6)
+      → Sees ran (evaluated_for C x e).after C (evaluate s e).st × ((evaluated_for C x e).value ≡ (evaluate s e).val) × ((evaluate s e).st.fl e ≡ f6)

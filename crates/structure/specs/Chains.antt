@@ -6,9 +6,9 @@ abbrev pub first_word : List ℕ → ℕ
 first_word [] = 0
 first_word (x ∷ xs) = suc x
 
-abbrev pub lastWord : ℕ → List ℕ → ℕ
-lastWord p [] = p
-lastWord p (x ∷ xs) = lastWord (suc x) xs
+abbrev pub last_word : ℕ → List ℕ → ℕ
+last_word p [] = p
+last_word p (x ∷ xs) = last_word (suc x) xs
 
 -- along next, from the word p: the slots xs, and then nothing
 abbrev pub Chain : (ℕ → ℕ) → ℕ → List ℕ → Type 0

@@ -3,5 +3,5 @@ use Rattle.std.specs.Prelude.{Bool, ◌&&◌, List, ℕ, eqb, leb}
 use Rattle.primitive.specs.Words.{LEVEL, node}
 
 -- node n's level is the one given, and at most the greatest
-unfoldable pub levelKept : List ℕ → ℕ → ℕ → ℕ → Bool
-levelKept nodes n level most = leb level most && eqb (node nodes n LEVEL) level
+unfoldable pub level_kept : List ℕ → ℕ → ℕ → ℕ → Bool
+level_kept nodes n level most = leb level most && eqb (node nodes n LEVEL) level

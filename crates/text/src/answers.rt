@@ -2,7 +2,7 @@
 ghost use Rattle.std.specs.Prelude.{◌≡◌, pos};
 ghost use Rattle.spelling.specs.Buffers.{buffer, put, pushed};
 ghost use Rattle.spelling.specs.Decimals.{glyph, digits, decimal};
-ghost use Rattle.spelling.specs.Answers.{line, row, rows, answer, unreadableAnswer};
+ghost use Rattle.spelling.specs.Answers.{line, row, rows, answer, unreadable_answer};
 
 // One byte at out[at]; answers the next place.
 pub fn push(out: &mut [u8], at: usize, b: u8) -> usize
@@ -122,7 +122,7 @@ pub fn put_answer(out: &mut [u8], code: u64, value: i64, runs: u64, log: &[i64])
 
 // The answer to a pair that can't be read: refusal 2, value 0, no runs.
 pub fn put_unreadable(out: &mut [u8]) -> usize
-    ensures { buffer out.new result ≡ put (buffer out.old 0) unreadableAnswer }
+    ensures { buffer out.new result ≡ put (buffer out.old 0) unreadable_answer }
 {
     put_answer(out, 2, 0, 0, &[])
 }

@@ -1,8 +1,8 @@
 // A pair of lines, read from a window on the input into lent words.
 ghost use Rattle.std.specs.Prelude.{◌≡◌, ◌∷◌, length};
 ghost use Rattle.spelling.specs.Numbers.{spelled};
-ghost use Rattle.spelling.specs.Lines.{space, first_of, begins, end_of, commandLine, argsLine, pieces, eachSpelled, fromSecond};
-ghost use Rattle.spelling.specs.Pairs.{countFrom, worth, worths, argWords, taken, held, into, pairIn};
+ghost use Rattle.spelling.specs.Lines.{space, first_of, begins, end_of, command_line, args_line, pieces, each_spelled, from_second};
+ghost use Rattle.spelling.specs.Pairs.{count_from, worth, worths, arg_words, taken, held, into, pair_in};
 ghost use Rattle.spelling.specs.Buffers.{buffer, put, pushed};
 
 use crate::numbers::number;
@@ -54,7 +54,7 @@ pub fn line_end(s: &[u8]) -> End
 
 // The one number of a line `cmd=N`.
 pub fn command_line(s: &[u8]) -> Spelled
-    ensures { result ≡ commandLine s.now }
+    ensures { result ≡ command_line s.now }
 {
     if has_key(s, b"cmd=") {
         return number(&s[4..]);
@@ -64,7 +64,7 @@ pub fn command_line(s: &[u8]) -> Spelled
 
 // The numbers of s, one space between; an empty s is no number.
 fn count_of(s: &[u8]) -> Count
-    ensures { result ≡ countFrom 0 (eachSpelled (pieces space s.now)) }
+    ensures { result ≡ count_from 0 (each_spelled (pieces space s.now)) }
 {
     let mut n = 0;
     let mut at = 0;
@@ -85,7 +85,7 @@ fn count_of(s: &[u8]) -> Count
 
 // How many numbers a line `args=..` has.
 pub fn args_line(s: &[u8]) -> Count
-    ensures { result ≡ countFrom 0 (argsLine s.now) }
+    ensures { result ≡ count_from 0 (args_line s.now) }
 {
     if has_key(s, b"args=") {
         if s.len() == 5 {
@@ -135,7 +135,7 @@ fn store(s: &[u8], words: &mut [i64], from: usize)
 
 // The words of a pair: its code, and the numbers of its second line.
 fn store_pair(words: &mut [i64], code: i64, s: &[u8])
-    ensures { words.new ≡ (put (buffer words.old 0) (code ∷ argWords s.now)).held }
+    ensures { words.new ≡ (put (buffer words.old 0) (code ∷ arg_words s.now)).held }
 {
     let to = push(words, 0, code);
     if s.len() <= 5 {
@@ -146,7 +146,7 @@ fn store_pair(words: &mut [i64], code: i64, s: &[u8])
 
 // The second line, once the first gave the code.
 fn second(code: i64, s: &[u8], words: &mut [i64]) -> Found
-    ensures { taken result words.new ≡ into words.old (held (length words.old) (fromSecond code s.now (end_of s.now))) }
+    ensures { taken result words.new ≡ into words.old (held (length words.old) (from_second code s.now (end_of s.now))) }
 {
     match line_end(s) {
         End::Long => Found::Unreadable,
@@ -166,7 +166,7 @@ fn second(code: i64, s: &[u8], words: &mut [i64]) -> Found
 
 // The first pair of the window. Its words are in `words` if it was read; else `words` is as it was. A pair of more words than are lent can't be read.
 pub fn pair(window: &[u8], words: &mut [i64]) -> Found
-    ensures { taken result words.new ≡ pairIn window.now words.old }
+    ensures { taken result words.new ≡ pair_in window.now words.old }
 {
     match line_end(window) {
         End::Long => Found::Unreadable,

@@ -1,6 +1,6 @@
 // Strict decimal numbers, read: no leading zeros, no `+`, no `-0`, within i64.
 ghost use Rattle.std.specs.Prelude.{◌≡◌};
-ghost use Rattle.spelling.specs.Numbers.{digitsFrom, natural, within, plus, minus, spelled};
+ghost use Rattle.spelling.specs.Numbers.{digits_from, natural, within, plus, minus, spelled};
 
 use spelling::numbers::{Digits, Spelled};
 
@@ -12,7 +12,7 @@ fn wide(b: u8) -> u64
 
 // The digits from the first on. Nothing over 2^63 is told, so that the sum never wraps.
 fn digits_of(s: &[u8]) -> Digits
-    ensures { result ≡ within (digitsFrom 0 s.now) }
+    ensures { result ≡ within (digits_from 0 s.now) }
 {
     let mut v: u64 = 0;
     let mut i = 0;

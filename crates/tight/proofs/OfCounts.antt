@@ -22,32 +22,32 @@ use Rattle.counts.proofs.room.counted.Reads as room-counted
 use Rattle.counts.proofs.room.carry.Kinds as room-carry-kinds
 use Rattle.counts.proofs.room.carry.Reads as room-carry
 
-pub one-depths-depth-under : OneAnswer depths-depth-under-kinds.ps depths-depth-under-kinds.r depths-depth-under.Learnt
-one-depths-depth-under κs a x y v w p q = (p ∙ sym q, refl)
+pub one_depths_depth_under : OneAnswer depths-depth-under-kinds.ps depths-depth-under-kinds.r depths-depth-under.Learnt
+one_depths_depth_under κs a x y v w p q = (p ∙ sym q, refl)
 
-pub one-reserve-plus : OneAnswer reserve-plus-kinds.ps reserve-plus-kinds.r reserve-plus.Learnt
-one-reserve-plus κs a x y v w p q = (p ∙ sym q, refl)
+pub one_reserve_plus : OneAnswer reserve-plus-kinds.ps reserve-plus-kinds.r reserve-plus.Learnt
+one_reserve_plus κs a x y v w p q = (p ∙ sym q, refl)
 
-pub one-reserve-reserve-of : OneAnswer reserve-reserve-of-kinds.ps reserve-reserve-of-kinds.r reserve-reserve-of.Learnt
-one-reserve-reserve-of κs a x y v w p q = (p ∙ sym q, refl)
+pub one_reserve_reserve_of : OneAnswer reserve-reserve-of-kinds.ps reserve-reserve-of-kinds.r reserve-reserve-of.Learnt
+one_reserve_reserve_of κs a x y v w p q = (p ∙ sym q, refl)
 
-pub one-reserve-reserve : OneAnswer reserve-reserve-kinds.ps reserve-reserve-kinds.r reserve-reserve.Learnt
-one-reserve-reserve κs a x y v w p q = (p ∙ sym q, refl)
+pub one_reserve_reserve : OneAnswer reserve-reserve-kinds.ps reserve-reserve-kinds.r reserve-reserve.Learnt
+one_reserve_reserve κs a x y v w p q = (p ∙ sym q, refl)
 
-pub one-reserve-live-effects : OneAnswer reserve-live-effects-kinds.ps reserve-live-effects-kinds.r reserve-live-effects.Learnt
-one-reserve-live-effects κs a x y v w p q = (p ∙ sym q, refl)
+pub one_reserve_live_effects : OneAnswer reserve-live-effects-kinds.ps reserve-live-effects-kinds.r reserve-live-effects.Learnt
+one_reserve_live_effects κs a x y v w p q = (p ∙ sym q, refl)
 
-pub one-room-node-room : OneAnswer room-node-room-kinds.ps room-node-room-kinds.r room-node-room.Learnt
-one-room-node-room κs a x y v w p q = (p ∙ sym q, refl)
+pub one_room_node_room : OneAnswer room-node-room-kinds.ps room-node-room-kinds.r room-node-room.Learnt
+one_room_node_room κs a x y v w p q = (p ∙ sym q, refl)
 
-pub one-room-slot-room : OneAnswer room-slot-room-kinds.ps room-slot-room-kinds.r room-slot-room.Learnt
-one-room-slot-room κs a x y v w p q = (p ∙ sym q, refl)
+pub one_room_slot_room : OneAnswer room-slot-room-kinds.ps room-slot-room-kinds.r room-slot-room.Learnt
+one_room_slot_room κs a x y v w p q = (p ∙ sym q, refl)
 
-pub one-room-cell-room : OneAnswer room-cell-room-kinds.ps room-cell-room-kinds.r room-cell-room.Learnt
-one-room-cell-room κs a x y v w p q = (p ∙ sym q, refl)
+pub one_room_cell_room : OneAnswer room-cell-room-kinds.ps room-cell-room-kinds.r room-cell-room.Learnt
+one_room_cell_room κs a x y v w p q = (p ∙ sym q, refl)
 
-pub one-room-counted : OneAnswer room-counted-kinds.ps room-counted-kinds.r room-counted.Learnt
-one-room-counted κs a x y v w p q = (p ∙ sym q, refl)
+pub one_room_counted : OneAnswer room-counted-kinds.ps room-counted-kinds.r room-counted.Learnt
+one_room_counted κs a x y v w p q = (p ∙ sym q, refl)
 
-pub one-room-carry : OneAnswer room-carry-kinds.ps room-carry-kinds.r room-carry.Learnt
-one-room-carry κs a x y v w p q = (p ∙ sym q, refl)
+pub one_room_carry : OneAnswer room-carry-kinds.ps room-carry-kinds.r room-carry.Learnt
+one_room_carry κs a x y v w p q = (p ∙ sym q, refl)

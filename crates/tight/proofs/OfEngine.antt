@@ -14,26 +14,26 @@ use Rattle.engine.proofs.perform.perform.Reads as perform-perform
 use Rattle.engine.proofs.tables.well_formed.Kinds as tables-well-formed-kinds
 use Rattle.engine.proofs.tables.well_formed.Reads as tables-well-formed
 
-pub one-command-refusal-on : OneAnswer command-refusal-on-kinds.ps command-refusal-on-kinds.r command-refusal-on.Learnt
-one-command-refusal-on κs a x y v w p q = (p ∙ sym q, refl)
+pub one_command_refusal_on : OneAnswer command-refusal-on-kinds.ps command-refusal-on-kinds.r command-refusal-on.Learnt
+one_command_refusal_on κs a x y v w p q = (p ∙ sym q, refl)
 
-pub one-command-refusal : OneAnswer command-refusal-kinds.ps command-refusal-kinds.r command-refusal.Learnt
-one-command-refusal κs a x y v w p q = (p ∙ sym q, refl)
+pub one_command_refusal : OneAnswer command-refusal-kinds.ps command-refusal-kinds.r command-refusal.Learnt
+one_command_refusal κs a x y v w p q = (p ∙ sym q, refl)
 
-pub one-command-command-on : OneAnswer command-command-on-kinds.ps command-command-on-kinds.r command-command-on.Learnt
-one-command-command-on κs a x y v w p q =
+pub one_command_command_on : OneAnswer command-command-on-kinds.ps command-command-on-kinds.r command-command-on.Learnt
+one_command_command_on κs a x y v w p q =
     let e = p ∙ sym q in
     (λ i. record { code = (e i).code; value = (e i).value; runs = (e i).runs }, λ i. ((e i).nodes, ((e i).links, ((e i).values, ((e i).cells, ((e i).log, (tt, (tt, tt))))))))
 
-pub one-command-command : OneAnswer command-command-kinds.ps command-command-kinds.r command-command.Learnt
-one-command-command κs a x y v w p q =
+pub one_command_command : OneAnswer command-command-kinds.ps command-command-kinds.r command-command.Learnt
+one_command_command κs a x y v w p q =
     let e = p ∙ sym q in
     (λ i. record { code = (e i).code; value = (e i).value; runs = (e i).runs }, λ i. ((e i).nodes, ((e i).links, ((e i).values, ((e i).cells, ((e i).log, (tt, tt)))))))
 
-pub one-perform-perform : OneAnswer perform-perform-kinds.ps perform-perform-kinds.r perform-perform.Learnt
-one-perform-perform κs a x y v w p q =
+pub one_perform_perform : OneAnswer perform-perform-kinds.ps perform-perform-kinds.r perform-perform.Learnt
+one_perform_perform κs a x y v w p q =
     let e = p ∙ sym q in
     (λ i. record { value = (e i).value; runs = (e i).ran.rows }, λ i. ((e i).ran.after.nodes, ((e i).ran.after.links, ((e i).ran.after.values, ((e i).cells, ((e i).ran.log, (tt, (tt, tt))))))))
 
-pub one-tables-well-formed : OneAnswer tables-well-formed-kinds.ps tables-well-formed-kinds.r tables-well-formed.Learnt
-one-tables-well-formed κs a x y v w p q = (p ∙ sym q, refl)
+pub one_tables_well_formed : OneAnswer tables-well-formed-kinds.ps tables-well-formed-kinds.r tables-well-formed.Learnt
+one_tables_well_formed κs a x y v w p q = (p ∙ sym q, refl)

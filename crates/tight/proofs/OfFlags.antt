@@ -9,7 +9,7 @@ use Rattle.flags.proofs.Flags.is_zero.Kinds as is-zero-kinds
 use Rattle.flags.proofs.Flags.is_zero.Reads as is_zero
 use Rattle.flags.proofs.Flags.is_nonzero.Kinds as is-nonzero-kinds
 use Rattle.flags.proofs.Flags.is_nonzero.Reads as is-nonzero
-use Rattle.flags.proofs.Flags.same.Kinds as same-kinds
+use Rattle.flags.proofs.Flags.same.Kinds as same_kinds
 use Rattle.flags.proofs.Flags.same.Reads as same
 use Rattle.flags.proofs.Flags.join.Kinds as join-kinds
 use Rattle.flags.proofs.Flags.join.Reads as join
@@ -20,29 +20,29 @@ use Rattle.flags.proofs.Flags.clear.Reads as clear
 use Rattle.flags.proofs.Flags.names.Kinds as names-kinds
 use Rattle.flags.proofs.Flags.names.Reads as names
 
-pub one-of-word : OneAnswer of-word-kinds.ps of-word-kinds.r of_word.Learnt
-one-of-word κs a x y v w p q = (λ i. record { bits = (p ∙ sym q) i }, refl)
+pub one_of_word : OneAnswer of-word-kinds.ps of-word-kinds.r of_word.Learnt
+one_of_word κs a x y v w p q = (λ i. record { bits = (p ∙ sym q) i }, refl)
 
-pub one-word : OneAnswer word-kinds.ps word-kinds.r word.Learnt
-one-word κs a x y v w p q = (p ∙ sym q, refl)
+pub one_word_lem : OneAnswer word-kinds.ps word-kinds.r word.Learnt
+one_word_lem κs a x y v w p q = (p ∙ sym q, refl)
 
-pub one-is-zero : OneAnswer is-zero-kinds.ps is-zero-kinds.r is_zero.Learnt
-one-is-zero κs a x y v w p q = (p ∙ sym q, refl)
+pub one_is_zero : OneAnswer is-zero-kinds.ps is-zero-kinds.r is_zero.Learnt
+one_is_zero κs a x y v w p q = (p ∙ sym q, refl)
 
-pub one-is-nonzero : OneAnswer is-nonzero-kinds.ps is-nonzero-kinds.r is-nonzero.Learnt
-one-is-nonzero κs a x y v w p q = (p ∙ sym q, refl)
+pub one_is_nonzero : OneAnswer is-nonzero-kinds.ps is-nonzero-kinds.r is-nonzero.Learnt
+one_is_nonzero κs a x y v w p q = (p ∙ sym q, refl)
 
-pub one_same : OneAnswer same-kinds.ps same-kinds.r same.Learnt
+pub one_same : OneAnswer same_kinds.ps same_kinds.r same.Learnt
 one_same κs a x y v w p q = (p ∙ sym q, refl)
 
-pub one-join : OneAnswer join-kinds.ps join-kinds.r join.Learnt
-one-join κs a x y v w p q = (λ i. record { bits = (p ∙ sym q) i }, refl)
+pub one_join : OneAnswer join-kinds.ps join-kinds.r join.Learnt
+one_join κs a x y v w p q = (λ i. record { bits = (p ∙ sym q) i }, refl)
 
-pub one-mask : OneAnswer mask-kinds.ps mask-kinds.r mask.Learnt
-one-mask κs a x y v w p q = (λ i. record { bits = (p ∙ sym q) i }, refl)
+pub one_mask : OneAnswer mask-kinds.ps mask-kinds.r mask.Learnt
+one_mask κs a x y v w p q = (λ i. record { bits = (p ∙ sym q) i }, refl)
 
-pub one-clear : OneAnswer clear-kinds.ps clear-kinds.r clear.Learnt
-one-clear κs a x y v w p q = (λ i. record { bits = (p ∙ sym q) i }, refl)
+pub one_clear : OneAnswer clear-kinds.ps clear-kinds.r clear.Learnt
+one_clear κs a x y v w p q = (λ i. record { bits = (p ∙ sym q) i }, refl)
 
-pub one-names : OneAnswer names-kinds.ps names-kinds.r names.Learnt
-one-names κs a x y v w p q = (p ∙ sym q, refl)
+pub one_names : OneAnswer names-kinds.ps names-kinds.r names.Learnt
+one_names κs a x y v w p q = (p ∙ sym q, refl)

@@ -22,32 +22,32 @@ use Rattle.formula.proofs.scans.read_cells.Reads as scans-read-cells
 use Rattle.formula.proofs.scans.height.Kinds as scans-height-kinds
 use Rattle.formula.proofs.scans.height.Reads as scans-height
 
-pub one-cells-natural : OneAnswer cells-natural-kinds.ps cells-natural-kinds.r cells-natural.Learnt
-one-cells-natural κs a x y v w p q = (p ∙ sym q, refl)
+pub one_cells_natural : OneAnswer cells-natural-kinds.ps cells-natural-kinds.r cells-natural.Learnt
+one_cells_natural κs a x y v w p q = (p ∙ sym q, refl)
 
-pub one-cells-cell-of : OneAnswer cells-cell-of-kinds.ps cells-cell-of-kinds.r cells-cell-of.Learnt
-one-cells-cell-of κs a x y v w p q = (p ∙ sym q, refl)
+pub one_cells_cell_of : OneAnswer cells-cell-of-kinds.ps cells-cell-of-kinds.r cells-cell-of.Learnt
+one_cells_cell_of κs a x y v w p q = (p ∙ sym q, refl)
 
-pub one-cells-arity : OneAnswer cells-arity-kinds.ps cells-arity-kinds.r cells-arity.Learnt
-one-cells-arity κs a x y v w p q = (p ∙ sym q, refl)
+pub one_cells_arity : OneAnswer cells-arity-kinds.ps cells-arity-kinds.r cells-arity.Learnt
+one_cells_arity κs a x y v w p q = (p ∙ sym q, refl)
 
-pub one-cells-name : OneAnswer cells-name-kinds.ps cells-name-kinds.r cells-name.Learnt
-one-cells-name κs a x y v w p q = (p ∙ sym q, refl)
+pub one_cells_name : OneAnswer cells-name-kinds.ps cells-name-kinds.r cells-name.Learnt
+one_cells_name κs a x y v w p q = (p ∙ sym q, refl)
 
-pub one-cells-cell-at : OneAnswer cells-cell-at-kinds.ps cells-cell-at-kinds.r cells-cell-at.Learnt
-one-cells-cell-at κs a x y v w p q = (p ∙ sym q, refl)
+pub one_cells_cell_at : OneAnswer cells-cell-at-kinds.ps cells-cell-at-kinds.r cells-cell-at.Learnt
+one_cells_cell_at κs a x y v w p q = (p ∙ sym q, refl)
 
-pub one-cells-end : OneAnswer cells-end-kinds.ps cells-end-kinds.r cells-end.Learnt
-one-cells-end κs a x y v w p q = (p ∙ sym q, refl)
+pub one_cells_end : OneAnswer cells-end-kinds.ps cells-end-kinds.r cells-end.Learnt
+one_cells_end κs a x y v w p q = (p ∙ sym q, refl)
 
-pub one-legal-readable : OneAnswer legal-readable-kinds.ps legal-readable-kinds.r legal-readable.Learnt
-one-legal-readable κs a x y v w p q = (p ∙ sym q, refl)
+pub one_legal_readable : OneAnswer legal-readable-kinds.ps legal-readable-kinds.r legal-readable.Learnt
+one_legal_readable κs a x y v w p q = (p ∙ sym q, refl)
 
-pub one-legal-legal : OneAnswer legal-legal-kinds.ps legal-legal-kinds.r legal-legal.Learnt
-one-legal-legal κs a x y v w p q = (p ∙ sym q, refl)
+pub one_legal_legal : OneAnswer legal-legal-kinds.ps legal-legal-kinds.r legal-legal.Learnt
+one_legal_legal κs a x y v w p q = (p ∙ sym q, refl)
 
-pub one-scans-read-cells : OneAnswer scans-read-cells-kinds.ps scans-read-cells-kinds.r scans-read-cells.Learnt
-one-scans-read-cells κs a x y v w p q = (p ∙ sym q, refl)
+pub one_scans_read_cells : OneAnswer scans-read-cells-kinds.ps scans-read-cells-kinds.r scans-read-cells.Learnt
+one_scans_read_cells κs a x y v w p q = (p ∙ sym q, refl)
 
-pub one-scans-height : OneAnswer scans-height-kinds.ps scans-height-kinds.r scans-height.Learnt
-one-scans-height κs a x y v w p q = (p ∙ sym q, refl)
+pub one_scans_height : OneAnswer scans-height-kinds.ps scans-height-kinds.r scans-height.Learnt
+one_scans_height κs a x y v w p q = (p ∙ sym q, refl)

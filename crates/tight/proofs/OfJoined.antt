@@ -4,5 +4,5 @@ use Rattle.tight.specs.OneAnswer.{OneAnswer}
 use Rattle.joined.proofs.joined.Kinds as joined-kinds
 use Rattle.joined.proofs.joined.Reads as joined
 
-pub one-joined : OneAnswer joined-kinds.ps joined-kinds.r joined.Learnt
-one-joined κs a x y v w p q = (p ∙ sym q, refl)
+pub one_joined : OneAnswer joined-kinds.ps joined-kinds.r joined.Learnt
+one_joined κs a x y v w p q = (p ∙ sym q, refl)

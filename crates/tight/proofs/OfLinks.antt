@@ -20,41 +20,41 @@ use Rattle.links.proofs.unlink.dispose.Reads as unlink-dispose
 use Rattle.links.proofs.unlink.purge_deps.Kinds as unlink-purge-deps-kinds
 use Rattle.links.proofs.unlink.purge_deps.Reads as unlink-purge-deps
 
-pub one-free-is-live : OneAnswer free-is-live-kinds.ps free-is-live-kinds.r free-is-live.Learnt
-one-free-is-live κs a x y v w p q = (p ∙ sym q, refl)
+pub one_free_is_live : OneAnswer free-is-live-kinds.ps free-is-live-kinds.r free-is-live.Learnt
+one_free_is_live κs a x y v w p q = (p ∙ sym q, refl)
 
-pub one-free-live : OneAnswer free-live-kinds.ps free-live-kinds.r free-live.Learnt
-one-free-live κs a x y v w p q = (p ∙ sym q, refl)
+pub one_free_live : OneAnswer free-live-kinds.ps free-live-kinds.r free-live.Learnt
+one_free_live κs a x y v w p q = (p ∙ sym q, refl)
 
-pub one-free-take : OneAnswer free-take-kinds.ps free-take-kinds.r free-take.Learnt
-one-free-take κs a x y v w p q =
+pub one_free_take : OneAnswer free-take-kinds.ps free-take-kinds.r free-take.Learnt
+one_free_take κs a x y v w p q =
     let e = p ∙ sym q in
     (λ i. (e i).word, λ i. ((e i).links, tt))
 
-pub one-free-release : OneAnswer free-release-kinds.ps free-release-kinds.r free-release.Learnt
-one-free-release κs a x y v w p q = (refl, λ i. ((p ∙ sym q) i, (tt, tt)))
+pub one_free_release : OneAnswer free-release-kinds.ps free-release-kinds.r free-release.Learnt
+one_free_release κs a x y v w p q = (refl, λ i. ((p ∙ sym q) i, (tt, tt)))
 
-pub one-link-link : OneAnswer link-link-kinds.ps link-link-kinds.r link-link.Learnt
-one-link-link κs a x y v w p q =
+pub one_link_link : OneAnswer link-link-kinds.ps link-link-kinds.r link-link.Learnt
+one_link_link κs a x y v w p q =
     let e = p ∙ sym q in
     (refl, λ i. ((e i).nodes, ((e i).links, (tt, (tt, (tt, tt))))))
 
-pub one-unlink-unlink : OneAnswer unlink-unlink-kinds.ps unlink-unlink-kinds.r unlink-unlink.Learnt
-one-unlink-unlink κs a x y v w p q =
+pub one_unlink_unlink : OneAnswer unlink-unlink-kinds.ps unlink-unlink-kinds.r unlink-unlink.Learnt
+one_unlink_unlink κs a x y v w p q =
     let e = p ∙ sym q in
     (λ i. (e i).next, λ i. ((e i).tabs.nodes, ((e i).tabs.links, (tt, (tt, tt)))))
 
-pub one-unlink-unwatched : OneAnswer unlink-unwatched-kinds.ps unlink-unwatched-kinds.r unlink-unwatched.Learnt
-one-unlink-unwatched κs a x y v w p q =
+pub one_unlink_unwatched : OneAnswer unlink-unwatched-kinds.ps unlink-unwatched-kinds.r unlink-unwatched.Learnt
+one_unlink_unwatched κs a x y v w p q =
     let e = p ∙ sym q in
     (refl, λ i. ((e i).nodes, ((e i).links, (tt, tt))))
 
-pub one-unlink-dispose : OneAnswer unlink-dispose-kinds.ps unlink-dispose-kinds.r unlink-dispose.Learnt
-one-unlink-dispose κs a x y v w p q =
+pub one_unlink_dispose : OneAnswer unlink-dispose-kinds.ps unlink-dispose-kinds.r unlink-dispose.Learnt
+one_unlink_dispose κs a x y v w p q =
     let e = p ∙ sym q in
     (refl, λ i. ((e i).nodes, ((e i).links, (tt, tt))))
 
-pub one-unlink-purge-deps : OneAnswer unlink-purge-deps-kinds.ps unlink-purge-deps-kinds.r unlink-purge-deps.Learnt
-one-unlink-purge-deps κs a x y v w p q =
+pub one_unlink_purge_deps : OneAnswer unlink-purge-deps-kinds.ps unlink-purge-deps-kinds.r unlink-purge-deps.Learnt
+one_unlink_purge_deps κs a x y v w p q =
     let e = p ∙ sym q in
     (refl, λ i. ((e i).nodes, ((e i).links, (tt, tt))))

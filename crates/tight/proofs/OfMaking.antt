@@ -11,22 +11,22 @@ use Rattle.making.proofs.new_scope.Reads as new-scope
 use Rattle.making.proofs.new_effect.Kinds as new-effect-kinds
 use Rattle.making.proofs.new_effect.Reads as new-effect
 
-pub one-new-signal : OneAnswer new-signal-kinds.ps new-signal-kinds.r new-signal.Learnt
-one-new-signal κs a x y v w p q =
+pub one_new_signal : OneAnswer new-signal-kinds.ps new-signal-kinds.r new-signal.Learnt
+one_new_signal κs a x y v w p q =
     let e = (p []) ∙ sym (q []) in
     (λ i. (e i).number, λ i. ((e i).after.nodes, ((e i).after.values, ((e i).cells, (tt, tt)))))
 
-pub one-new-computed : OneAnswer new-computed-kinds.ps new-computed-kinds.r new-computed.Learnt
-one-new-computed κs a x y v w p q =
+pub one_new_computed : OneAnswer new-computed-kinds.ps new-computed-kinds.r new-computed.Learnt
+one_new_computed κs a x y v w p q =
     let e = (p []) ∙ sym (q []) in
     (λ i. (e i).number, λ i. ((e i).after.nodes, ((e i).after.values, ((e i).cells, (tt, tt)))))
 
-pub one-new-scope : OneAnswer new-scope-kinds.ps new-scope-kinds.r new-scope.Learnt
-one-new-scope κs a x y v w p q =
+pub one_new_scope : OneAnswer new-scope-kinds.ps new-scope-kinds.r new-scope.Learnt
+one_new_scope κs a x y v w p q =
     let e = p ∙ sym q in
     (λ i. (e i).number, λ i. ((e i).after.nodes, ((e i).after.links, ((e i).after.values, ((e i).cells, (tt, tt))))))
 
-pub one-new-effect : OneAnswer new-effect-kinds.ps new-effect-kinds.r new-effect.Learnt
-one-new-effect κs a x y v w p q =
+pub one_new_effect : OneAnswer new-effect-kinds.ps new-effect-kinds.r new-effect.Learnt
+one_new_effect κs a x y v w p q =
     let e = p ∙ sym q in
     (λ i. record { number = (e i).number; rows = (e i).ran.rows }, λ i. ((e i).ran.after.nodes, ((e i).ran.after.links, ((e i).ran.after.values, ((e i).cells, ((e i).ran.log, (tt, (tt, tt))))))))

@@ -14,20 +14,20 @@ use Rattle.marks.proofs.walks.propagate.Reads as walks-propagate
 use Rattle.marks.proofs.walks.shallow_propagate.Kinds as walks-shallow-propagate-kinds
 use Rattle.marks.proofs.walks.shallow_propagate.Reads as walks-shallow-propagate
 
-pub one-effects-notify : OneAnswer effects-notify-kinds.ps effects-notify-kinds.r effects-notify.Learnt
-one-effects-notify κs a x y v w p q = (refl, λ i. ((p ∙ sym q) i, (tt, (tt, tt))))
+pub one_effects_notify : OneAnswer effects-notify-kinds.ps effects-notify-kinds.r effects-notify.Learnt
+one_effects_notify κs a x y v w p q = (refl, λ i. ((p ∙ sym q) i, (tt, (tt, tt))))
 
-pub one-nodes-flags : OneAnswer nodes-flags-kinds.ps nodes-flags-kinds.r nodes-flags.Learnt
-one-nodes-flags κs a x y v w p q = (λ i. record { bits = (p ∙ sym q) i }, refl)
+pub one_nodes_flags : OneAnswer nodes-flags-kinds.ps nodes-flags-kinds.r nodes-flags.Learnt
+one_nodes_flags κs a x y v w p q = (λ i. record { bits = (p ∙ sym q) i }, refl)
 
-pub one-nodes-set-flags : OneAnswer nodes-set-flags-kinds.ps nodes-set-flags-kinds.r nodes-set-flags.Learnt
-one-nodes-set-flags κs a x y v w p q = (refl, λ i. ((p ∙ sym q) i, (tt, (tt, tt))))
+pub one_nodes_set_flags : OneAnswer nodes-set-flags-kinds.ps nodes-set-flags-kinds.r nodes-set-flags.Learnt
+one_nodes_set_flags κs a x y v w p q = (refl, λ i. ((p ∙ sym q) i, (tt, (tt, tt))))
 
-pub one-walks-is-valid-link : OneAnswer walks-is-valid-link-kinds.ps walks-is-valid-link-kinds.r walks-is-valid-link.Learnt
-one-walks-is-valid-link κs a x y v w p q = (p ∙ sym q, refl)
+pub one_walks_is_valid_link : OneAnswer walks-is-valid-link-kinds.ps walks-is-valid-link-kinds.r walks-is-valid-link.Learnt
+one_walks_is_valid_link κs a x y v w p q = (p ∙ sym q, refl)
 
-pub one-walks-propagate : OneAnswer walks-propagate-kinds.ps walks-propagate-kinds.r walks-propagate.Learnt
-one-walks-propagate κs a x y v w p q = (refl, λ i. ((p ∙ sym q) i, (tt, (tt, tt))))
+pub one_walks_propagate : OneAnswer walks-propagate-kinds.ps walks-propagate-kinds.r walks-propagate.Learnt
+one_walks_propagate κs a x y v w p q = (refl, λ i. ((p ∙ sym q) i, (tt, (tt, tt))))
 
-pub one-walks-shallow-propagate : OneAnswer walks-shallow-propagate-kinds.ps walks-shallow-propagate-kinds.r walks-shallow-propagate.Learnt
-one-walks-shallow-propagate κs a x y v w p q = (refl, λ i. ((p ∙ sym q) i, (tt, (tt, tt))))
+pub one_walks_shallow_propagate : OneAnswer walks-shallow-propagate-kinds.ps walks-shallow-propagate-kinds.r walks-shallow-propagate.Learnt
+one_walks_shallow_propagate κs a x y v w p q = (refl, λ i. ((p ∙ sym q) i, (tt, (tt, tt))))

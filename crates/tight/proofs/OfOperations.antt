@@ -9,8 +9,8 @@ use Rattle.operations.proofs.batches.end_batch.Kinds as batches-end-batch-kinds
 use Rattle.operations.proofs.batches.end_batch.Reads as batches-end-batch
 use Rattle.operations.proofs.emptying.empty.Kinds as emptying-empty-kinds
 use Rattle.operations.proofs.emptying.empty.Reads as emptying-empty
-use Rattle.operations.proofs.log.number_word.Kinds as log-number-word-kinds
-use Rattle.operations.proofs.log.number_word.Reads as log-number-word
+use Rattle.operations.proofs.log.number_told.Kinds as log-number-word-kinds
+use Rattle.operations.proofs.log.number_told.Reads as log-number-word
 use Rattle.operations.proofs.log.write_row.Kinds as log-write-row-kinds
 use Rattle.operations.proofs.log.write_row.Reads as log-write-row
 use Rattle.operations.proofs.runs.end_run.Kinds as runs-end-run-kinds
@@ -24,50 +24,50 @@ use Rattle.operations.proofs.writes.set.Reads as writes-set
 use Rattle.operations.proofs.writes.add.Kinds as writes-add-kinds
 use Rattle.operations.proofs.writes.add.Reads as writes-add
 
-pub one-batches-depth : OneAnswer batches-depth-kinds.ps batches-depth-kinds.r batches-depth.Learnt
-one-batches-depth κs a x y v w p q = (p ∙ sym q, refl)
+pub one_batches_depth : OneAnswer batches-depth-kinds.ps batches-depth-kinds.r batches-depth.Learnt
+one_batches_depth κs a x y v w p q = (p ∙ sym q, refl)
 
-pub one-batches-start-batch : OneAnswer batches-start-batch-kinds.ps batches-start-batch-kinds.r batches-start-batch.Learnt
-one-batches-start-batch κs a x y v w p q = (refl, λ i. ((p ∙ sym q) i, tt))
+pub one_batches_start_batch : OneAnswer batches-start-batch-kinds.ps batches-start-batch-kinds.r batches-start-batch.Learnt
+one_batches_start_batch κs a x y v w p q = (refl, λ i. ((p ∙ sym q) i, tt))
 
-pub one-batches-end-batch : OneAnswer batches-end-batch-kinds.ps batches-end-batch-kinds.r batches-end-batch.Learnt
-one-batches-end-batch κs a x y v w p q =
+pub one_batches_end_batch : OneAnswer batches-end-batch-kinds.ps batches-end-batch-kinds.r batches-end-batch.Learnt
+one_batches_end_batch κs a x y v w p q =
     let e = p ∙ sym q in
     (λ i. (e i).rows, λ i. ((e i).after.nodes, ((e i).after.links, ((e i).after.values, (tt, ((e i).log, tt))))))
 
-pub one-emptying-empty : OneAnswer emptying-empty-kinds.ps emptying-empty-kinds.r emptying-empty.Learnt
-one-emptying-empty κs a x y v w p q =
+pub one_emptying_empty : OneAnswer emptying-empty-kinds.ps emptying-empty-kinds.r emptying-empty.Learnt
+one_emptying_empty κs a x y v w p q =
     let e = p ∙ sym q in
     (λ i. (e i).code, λ i. ((e i).nodes, ((e i).links, ((e i).values, ((e i).cells, tt)))))
 
-pub one-log-number-word : OneAnswer log-number-word-kinds.ps log-number-word-kinds.r log-number-word.Learnt
-one-log-number-word κs a x y v w p q = (p ∙ sym q, refl)
+pub one_log_number_word : OneAnswer log-number-word-kinds.ps log-number-word-kinds.r log-number-word.Learnt
+one_log_number_word κs a x y v w p q = (p ∙ sym q, refl)
 
-pub one-log-write-row : OneAnswer log-write-row-kinds.ps log-write-row-kinds.r log-write-row.Learnt
-one-log-write-row κs a x y v w p q =
+pub one_log_write_row : OneAnswer log-write-row-kinds.ps log-write-row-kinds.r log-write-row.Learnt
+one_log_write_row κs a x y v w p q =
     let e1 = p.0 ∙ sym q.0 in
     let e2 = p.1 ∙ sym q.1 in
     (λ i. e1 i, λ i. (e2 i, (tt, (tt, tt))))
 
-pub one-runs-end-run : OneAnswer runs-end-run-kinds.ps runs-end-run-kinds.r runs-end-run.Learnt
-one-runs-end-run κs a x y v w p q = (refl, λ i. ((p ∙ sym q) i, (tt, tt)))
+pub one_runs_end_run : OneAnswer runs-end-run-kinds.ps runs-end-run-kinds.r runs-end-run.Learnt
+one_runs_end_run κs a x y v w p q = (refl, λ i. ((p ∙ sym q) i, (tt, tt)))
 
-pub one-runs-run : OneAnswer runs-run-kinds.ps runs-run-kinds.r runs-run.Learnt
-one-runs-run κs a x y v w p q =
+pub one_runs_run : OneAnswer runs-run-kinds.ps runs-run-kinds.r runs-run.Learnt
+one_runs_run κs a x y v w p q =
     let e = p ∙ sym q in
     (λ i. (e i).rows, λ i. ((e i).after.nodes, ((e i).after.links, ((e i).after.values, (tt, ((e i).log, (tt, tt)))))))
 
-pub one-runs-flush : OneAnswer runs-flush-kinds.ps runs-flush-kinds.r runs-flush.Learnt
-one-runs-flush κs a x y v w p q =
+pub one_runs_flush : OneAnswer runs-flush-kinds.ps runs-flush-kinds.r runs-flush.Learnt
+one_runs_flush κs a x y v w p q =
     let e = p ∙ sym q in
     (λ i. (e i).rows, λ i. ((e i).after.nodes, ((e i).after.links, ((e i).after.values, (tt, ((e i).log, tt))))))
 
-pub one-writes-set : OneAnswer writes-set-kinds.ps writes-set-kinds.r writes-set.Learnt
-one-writes-set κs a x y v w p q =
+pub one_writes_set : OneAnswer writes-set-kinds.ps writes-set-kinds.r writes-set.Learnt
+one_writes_set κs a x y v w p q =
     let e = p ∙ sym q in
     (λ i. (e i).rows, λ i. ((e i).after.nodes, ((e i).after.links, ((e i).after.values, (tt, ((e i).log, (tt, (tt, tt))))))))
 
-pub one-writes-add : OneAnswer writes-add-kinds.ps writes-add-kinds.r writes-add.Learnt
-one-writes-add κs a x y v w p q =
+pub one_writes_add : OneAnswer writes-add-kinds.ps writes-add-kinds.r writes-add.Learnt
+one_writes_add κs a x y v w p q =
     let e = p ∙ sym q in
     (λ i. (e i).rows, λ i. ((e i).after.nodes, ((e i).after.links, ((e i).after.values, (tt, ((e i).log, (tt, (tt, tt))))))))

@@ -4,5 +4,5 @@ use Rattle.tight.specs.OneAnswer.{OneAnswer}
 use Rattle.packs.proofs.decide.Kinds as decide-kinds
 use Rattle.packs.proofs.decide.Reads as decide
 
-pub one-decide : OneAnswer decide-kinds.ps decide-kinds.r decide.Learnt
-one-decide κs a x y v w p q = (p ∙ sym q, refl)
+pub one_decide : OneAnswer decide-kinds.ps decide-kinds.r decide.Learnt
+one_decide κs a x y v w p q = (p ∙ sym q, refl)

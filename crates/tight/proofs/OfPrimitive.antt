@@ -14,20 +14,20 @@ use Rattle.primitive.proofs.words.get.Reads as words-get
 use Rattle.primitive.proofs.words.store.Kinds as words-store-kinds
 use Rattle.primitive.proofs.words.store.Reads as words-store
 
-pub one-slots-open : OneAnswer slots-open-kinds.ps slots-open-kinds.r slots-open.Learnt
-one-slots-open κs a x y v w p q = (p ∙ sym q, refl)
+pub one_slots_open : OneAnswer slots-open-kinds.ps slots-open-kinds.r slots-open.Learnt
+one_slots_open κs a x y v w p q = (p ∙ sym q, refl)
 
-pub one-words-at : OneAnswer words-at-kinds.ps words-at-kinds.r words-at.Learnt
-one-words-at κs a x y v w p q = (p ∙ sym q, refl)
+pub one_words_at : OneAnswer words-at-kinds.ps words-at-kinds.r words-at.Learnt
+one_words_at κs a x y v w p q = (p ∙ sym q, refl)
 
-pub one-words-put : OneAnswer words-put-kinds.ps words-put-kinds.r words-put.Learnt
-one-words-put κs a x y v w p q = (refl, λ i. ((p ∙ sym q) i, (tt, (tt, tt))))
+pub one_words_put : OneAnswer words-put-kinds.ps words-put-kinds.r words-put.Learnt
+one_words_put κs a x y v w p q = (refl, λ i. ((p ∙ sym q) i, (tt, (tt, tt))))
 
-pub one-words-signed-at : OneAnswer words-signed-at-kinds.ps words-signed-at-kinds.r words-signed-at.Learnt
-one-words-signed-at κs a x y v w p q = (p ∙ sym q, refl)
+pub one_words_signed_at : OneAnswer words-signed-at-kinds.ps words-signed-at-kinds.r words-signed-at.Learnt
+one_words_signed_at κs a x y v w p q = (p ∙ sym q, refl)
 
-pub one-words-get : OneAnswer words-get-kinds.ps words-get-kinds.r words-get.Learnt
-one-words-get κs a x y v w p q = (p ∙ sym q, refl)
+pub one_words_get : OneAnswer words-get-kinds.ps words-get-kinds.r words-get.Learnt
+one_words_get κs a x y v w p q = (p ∙ sym q, refl)
 
-pub one-words-store : OneAnswer words-store-kinds.ps words-store-kinds.r words-store.Learnt
-one-words-store κs a x y v w p q = (refl, λ i. ((p ∙ sym q) i, (tt, (tt, (tt, (tt, tt))))))
+pub one_words_store : OneAnswer words-store-kinds.ps words-store-kinds.r words-store.Learnt
+one_words_store κs a x y v w p q = (refl, λ i. ((p ∙ sym q) i, (tt, (tt, (tt, (tt, tt))))))

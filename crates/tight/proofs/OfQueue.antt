@@ -12,17 +12,17 @@ use Rattle.queue.proofs.clear.Reads as clear
 use Rattle.queue.proofs.reverse_from.Kinds as reverse-from-kinds
 use Rattle.queue.proofs.reverse_from.Reads as reverse-from
 
-pub one-length : OneAnswer length-kinds.ps length-kinds.r length.Learnt
-one-length κs a x y v w p q = (p ∙ sym q, refl)
+pub one_length : OneAnswer length-kinds.ps length-kinds.r length.Learnt
+one_length κs a x y v w p q = (p ∙ sym q, refl)
 
 pub one_entry : OneAnswer entry-kinds.ps entry-kinds.r entry.Learnt
 one_entry κs a x y v w p q = (p ∙ sym q, refl)
 
-pub one-push : OneAnswer push-kinds.ps push-kinds.r push.Learnt
-one-push κs a x y v w p q = (refl, λ i. ((p ∙ sym q) i, (tt, tt)))
+pub one_push : OneAnswer push-kinds.ps push-kinds.r push.Learnt
+one_push κs a x y v w p q = (refl, λ i. ((p ∙ sym q) i, (tt, tt)))
 
-pub one-clear : OneAnswer clear-kinds.ps clear-kinds.r clear.Learnt
-one-clear κs a x y v w p q = (refl, λ i. ((p ∙ sym q) i, tt))
+pub one_clear : OneAnswer clear-kinds.ps clear-kinds.r clear.Learnt
+one_clear κs a x y v w p q = (refl, λ i. ((p ∙ sym q) i, tt))
 
-pub one-reverse-from : OneAnswer reverse-from-kinds.ps reverse-from-kinds.r reverse-from.Learnt
-one-reverse-from κs a x y v w p q = (refl, λ i. ((p ∙ sym q) i, (tt, tt)))
+pub one_reverse_from : OneAnswer reverse-from-kinds.ps reverse-from-kinds.r reverse-from.Learnt
+one_reverse_from κs a x y v w p q = (refl, λ i. ((p ∙ sym q) i, (tt, tt)))

@@ -26,44 +26,44 @@ use Rattle.reads.proofs.tests.has.Reads as tests-has
 use Rattle.reads.proofs.tests.has_all.Kinds as tests-has-all-kinds
 use Rattle.reads.proofs.tests.has_all.Reads as tests-has-all
 
-pub one-cycle-cycle : OneAnswer cycle-cycle-kinds.ps cycle-cycle-kinds.r cycle-cycle.Learnt
-one-cycle-cycle κs a x y v w p q = (λ i. record { cycle = (p ∙ sym q) i }, refl)
+pub one_cycle_cycle : OneAnswer cycle-cycle-kinds.ps cycle-cycle-kinds.r cycle-cycle.Learnt
+one_cycle_cycle κs a x y v w p q = (λ i. record { cycle = (p ∙ sym q) i }, refl)
 
-pub one-cycle-raise-cycle : OneAnswer cycle-raise-cycle-kinds.ps cycle-raise-cycle-kinds.r cycle-raise-cycle.Learnt
-one-cycle-raise-cycle κs a x y v w p q = (refl, λ i. ((p ∙ sym q) i, tt))
+pub one_cycle_raise_cycle : OneAnswer cycle-raise-cycle-kinds.ps cycle-raise-cycle-kinds.r cycle-raise-cycle.Learnt
+one_cycle_raise_cycle κs a x y v w p q = (refl, λ i. ((p ∙ sym q) i, tt))
 
-pub one-places-current : OneAnswer places-current-kinds.ps places-current-kinds.r places-current.Learnt
-one-places-current κs a x y v w p q = (p ∙ sym q, refl)
+pub one_places_current : OneAnswer places-current-kinds.ps places-current-kinds.r places-current.Learnt
+one_places_current κs a x y v w p q = (p ∙ sym q, refl)
 
-pub one-places-pending : OneAnswer places-pending-kinds.ps places-pending-kinds.r places-pending.Learnt
-one-places-pending κs a x y v w p q = (p ∙ sym q, refl)
+pub one_places_pending : OneAnswer places-pending-kinds.ps places-pending-kinds.r places-pending.Learnt
+one_places_pending κs a x y v w p q = (p ∙ sym q, refl)
 
-pub one-places-keep-current : OneAnswer places-keep-current-kinds.ps places-keep-current-kinds.r places-keep-current.Learnt
-one-places-keep-current κs a x y v w p q = (refl, λ i. ((p ∙ sym q) i, (tt, (tt, tt))))
+pub one_places_keep_current : OneAnswer places-keep-current-kinds.ps places-keep-current-kinds.r places-keep-current.Learnt
+one_places_keep_current κs a x y v w p q = (refl, λ i. ((p ∙ sym q) i, (tt, (tt, tt))))
 
-pub one-places-keep-pending : OneAnswer places-keep-pending-kinds.ps places-keep-pending-kinds.r places-keep-pending.Learnt
-one-places-keep-pending κs a x y v w p q = (refl, λ i. ((p ∙ sym q) i, (tt, (tt, tt))))
+pub one_places_keep_pending : OneAnswer places-keep-pending-kinds.ps places-keep-pending-kinds.r places-keep-pending.Learnt
+one_places_keep_pending κs a x y v w p q = (refl, λ i. ((p ∙ sym q) i, (tt, (tt, tt))))
 
-pub one-rank-rank : OneAnswer rank-rank-kinds.ps rank-rank-kinds.r rank-rank.Learnt
-one-rank-rank κs a x y v w p q = (p ∙ sym q, refl)
+pub one_rank_rank : OneAnswer rank-rank-kinds.ps rank-rank-kinds.r rank-rank.Learnt
+one_rank_rank κs a x y v w p q = (p ∙ sym q, refl)
 
-pub one-read-read : OneAnswer read-read-kinds.ps read-read-kinds.r read-read.Learnt
-one-read-read κs a x y v w p q =
+pub one_read_read : OneAnswer read-read-kinds.ps read-read-kinds.r read-read.Learnt
+one_read_read κs a x y v w p q =
     let e = p ∙ sym q in
     (λ i. (e i).value, λ i. ((e i).after.nodes, ((e i).after.links, ((e i).after.values, (tt, (tt, tt))))))
 
-pub one-read-check-dirty : OneAnswer read-check-dirty-kinds.ps read-check-dirty-kinds.r read-check-dirty.Learnt
-one-read-check-dirty κs a x y v w p q =
+pub one_read_check_dirty : OneAnswer read-check-dirty-kinds.ps read-check-dirty-kinds.r read-check-dirty.Learnt
+one_read_check_dirty κs a x y v w p q =
     let e = p ∙ sym q in
     (λ i. (e i).changed, λ i. ((e i).after.nodes, ((e i).after.links, ((e i).after.values, (tt, (tt, tt))))))
 
-pub one-read-evaluate : OneAnswer read-evaluate-kinds.ps read-evaluate-kinds.r read-evaluate.Learnt
-one-read-evaluate κs a x y v w p q =
+pub one_read_evaluate : OneAnswer read-evaluate-kinds.ps read-evaluate-kinds.r read-evaluate.Learnt
+one_read_evaluate κs a x y v w p q =
     let e = p ∙ sym q in
     (λ i. (e i).value, λ i. ((e i).after.nodes, ((e i).after.links, ((e i).after.values, (tt, (tt, tt))))))
 
-pub one-tests-has : OneAnswer tests-has-kinds.ps tests-has-kinds.r tests-has.Learnt
-one-tests-has κs a x y v w p q = (p ∙ sym q, refl)
+pub one_tests_has : OneAnswer tests-has-kinds.ps tests-has-kinds.r tests-has.Learnt
+one_tests_has κs a x y v w p q = (p ∙ sym q, refl)
 
-pub one-tests-has-all : OneAnswer tests-has-all-kinds.ps tests-has-all-kinds.r tests-has-all.Learnt
-one-tests-has-all κs a x y v w p q = (p ∙ sym q, refl)
+pub one_tests_has_all : OneAnswer tests-has-all-kinds.ps tests-has-all-kinds.r tests-has-all.Learnt
+one_tests_has_all κs a x y v w p q = (p ∙ sym q, refl)

@@ -16,23 +16,23 @@ use Rattle.refusals.proofs.naming.wrong_node.Reads as naming-wrong-node
 use Rattle.refusals.proofs.naming.gone_node.Kinds as naming-gone-node-kinds
 use Rattle.refusals.proofs.naming.gone_node.Reads as naming-gone-node
 
-pub one-asks-asks-of : OneAnswer asks-asks-of-kinds.ps asks-asks-of-kinds.r asks-asks-of.Learnt
-one-asks-asks-of κs a x y v w p q = (p ∙ sym q, refl)
+pub one_asks_asks_of : OneAnswer asks-asks-of-kinds.ps asks-asks-of-kinds.r asks-asks-of.Learnt
+one_asks_asks_of κs a x y v w p q = (p ∙ sym q, refl)
 
-pub one-asks-cells-from : OneAnswer asks-cells-from-kinds.ps asks-cells-from-kinds.r asks-cells-from.Learnt
-one-asks-cells-from κs a x y v w p q = (p ∙ sym q, refl)
+pub one_asks_cells_from : OneAnswer asks-cells-from-kinds.ps asks-cells-from-kinds.r asks-cells-from.Learnt
+one_asks_cells_from κs a x y v w p q = (p ∙ sym q, refl)
 
-pub one-commands-number-of : OneAnswer commands-number-of-kinds.ps commands-number-of-kinds.r commands-number-of.Learnt
-one-commands-number-of κs a x y v w p q = (p ∙ sym q, refl)
+pub one_commands_number_of : OneAnswer commands-number-of-kinds.ps commands-number-of-kinds.r commands-number-of.Learnt
+one_commands_number_of κs a x y v w p q = (p ∙ sym q, refl)
 
-pub one-commands-command-of : OneAnswer commands-command-of-kinds.ps commands-command-of-kinds.r commands-command-of.Learnt
-one-commands-command-of κs a x y v w p q = (p ∙ sym q, refl)
+pub one_commands_command_of : OneAnswer commands-command-of-kinds.ps commands-command-of-kinds.r commands-command-of.Learnt
+one_commands_command_of κs a x y v w p q = (p ∙ sym q, refl)
 
-pub one-naming-unknown : OneAnswer naming-unknown-kinds.ps naming-unknown-kinds.r naming-unknown.Learnt
-one-naming-unknown κs a x y v w p q = (p ∙ sym q, refl)
+pub one_naming_unknown : OneAnswer naming-unknown-kinds.ps naming-unknown-kinds.r naming-unknown.Learnt
+one_naming_unknown κs a x y v w p q = (p ∙ sym q, refl)
 
-pub one-naming-wrong-node : OneAnswer naming-wrong-node-kinds.ps naming-wrong-node-kinds.r naming-wrong-node.Learnt
-one-naming-wrong-node κs a x y v w p q = (p ∙ sym q, refl)
+pub one_naming_wrong_node : OneAnswer naming-wrong-node-kinds.ps naming-wrong-node-kinds.r naming-wrong-node.Learnt
+one_naming_wrong_node κs a x y v w p q = (p ∙ sym q, refl)
 
-pub one-naming-gone-node : OneAnswer naming-gone-node-kinds.ps naming-gone-node-kinds.r naming-gone-node.Learnt
-one-naming-gone-node κs a x y v w p q = (p ∙ sym q, refl)
+pub one_naming_gone_node : OneAnswer naming-gone-node-kinds.ps naming-gone-node-kinds.r naming-gone-node.Learnt
+one_naming_gone_node κs a x y v w p q = (p ∙ sym q, refl)

@@ -6,12 +6,12 @@ use Rattle.script.proofs.turn.Reads as turn
 use Rattle.script.proofs.packed.play.Kinds as packed-play-kinds
 use Rattle.script.proofs.packed.play.Reads as packed-play
 
-pub one-turn : OneAnswer turn-kinds.ps turn-kinds.r turn.Learnt
-one-turn κs a x y v w p q =
+pub one_turn : OneAnswer turn-kinds.ps turn-kinds.r turn.Learnt
+one_turn κs a x y v w p q =
     let e = p ∙ sym q in
     (λ i. (e i).turn, λ i. ((e i).after.nodes, ((e i).after.links, ((e i).after.values, ((e i).after.cells, ((e i).after.log, ((e i).words, ((e i).out, (tt, (tt, tt))))))))))
 
-pub one-packed-play : OneAnswer packed-play-kinds.ps packed-play-kinds.r packed-play.Learnt
-one-packed-play κs a x y v w p q =
+pub one_packed_play : OneAnswer packed-play-kinds.ps packed-play-kinds.r packed-play.Learnt
+one_packed_play κs a x y v w p q =
     let e = p ∙ sym q in
     (λ i. (e i).step, λ i. ((e i).after.nodes, ((e i).after.links, ((e i).after.values, ((e i).after.cells, ((e i).after.log, ((e i).words, ((e i).out, (tt, (tt, (tt, tt)))))))))))

@@ -30,62 +30,62 @@ use Rattle.text.proofs.numbers.magnitude.Reads as numbers-magnitude
 use Rattle.text.proofs.numbers.number.Kinds as numbers-number-kinds
 use Rattle.text.proofs.numbers.number.Reads as numbers-number
 
-pub one-answers-push : OneAnswer answers-push-kinds.ps answers-push-kinds.r answers_push.Learnt
-one-answers-push κs a x y v w p q =
+pub one_answers_push : OneAnswer answers-push-kinds.ps answers-push-kinds.r answers_push.Learnt
+one_answers_push κs a x y v w p q =
     let e = p ∙ sym q in
     (λ i. (e i).next, λ i. ((e i).held, (tt, (tt, tt))))
 
-pub one-answers-put-all : OneAnswer answers-put-all-kinds.ps answers-put-all-kinds.r answers-put-all.Learnt
-one-answers-put-all κs a x y v w p q =
+pub one_answers_put_all : OneAnswer answers-put-all-kinds.ps answers-put-all-kinds.r answers-put-all.Learnt
+one_answers_put_all κs a x y v w p q =
     let e = p ∙ sym q in
     (λ i. (e i).next, λ i. ((e i).held, (tt, (tt, tt))))
 
-pub one-answers-put-natural : OneAnswer answers-put-natural-kinds.ps answers-put-natural-kinds.r answers-put-natural.Learnt
-one-answers-put-natural κs a x y v w p q =
+pub one_answers_put_natural : OneAnswer answers-put-natural-kinds.ps answers-put-natural-kinds.r answers-put-natural.Learnt
+one_answers_put_natural κs a x y v w p q =
     let e = p ∙ sym q in
     (λ i. (e i).next, λ i. ((e i).held, (tt, (tt, tt))))
 
-pub one-answers-put-integer : OneAnswer answers-put-integer-kinds.ps answers-put-integer-kinds.r answers-put-integer.Learnt
-one-answers-put-integer κs a x y v w p q =
+pub one_answers_put_integer : OneAnswer answers-put-integer-kinds.ps answers-put-integer-kinds.r answers-put-integer.Learnt
+one_answers_put_integer κs a x y v w p q =
     let e = p ∙ sym q in
     (λ i. (e i).next, λ i. ((e i).held, (tt, (tt, tt))))
 
-pub one-answers-put-line : OneAnswer answers-put-line-kinds.ps answers-put-line-kinds.r answers-put-line.Learnt
-one-answers-put-line κs a x y v w p q =
+pub one_answers_put_line : OneAnswer answers-put-line-kinds.ps answers-put-line-kinds.r answers-put-line.Learnt
+one_answers_put_line κs a x y v w p q =
     let e = p ∙ sym q in
     (λ i. (e i).next, λ i. ((e i).held, (tt, (tt, (tt, tt)))))
 
-pub one-answers-put-count : OneAnswer answers-put-count-kinds.ps answers-put-count-kinds.r answers-put-count.Learnt
-one-answers-put-count κs a x y v w p q =
+pub one_answers_put_count : OneAnswer answers-put-count-kinds.ps answers-put-count-kinds.r answers-put-count.Learnt
+one_answers_put_count κs a x y v w p q =
     let e = p ∙ sym q in
     (λ i. (e i).next, λ i. ((e i).held, (tt, (tt, (tt, tt)))))
 
-pub one-answers-put-answer : OneAnswer answers-put-answer-kinds.ps answers-put-answer-kinds.r answers-put-answer.Learnt
-one-answers-put-answer κs a x y v w p q =
+pub one_answers_put_answer : OneAnswer answers-put-answer-kinds.ps answers-put-answer-kinds.r answers-put-answer.Learnt
+one_answers_put_answer κs a x y v w p q =
     let e = p ∙ sym q in
     (λ i. (e i).next, λ i. ((e i).held, (tt, (tt, (tt, (tt, tt))))))
 
-pub one-answers-put-unreadable : OneAnswer answers-put-unreadable-kinds.ps answers-put-unreadable-kinds.r answers-put-unreadable.Learnt
-one-answers-put-unreadable κs a x y v w p q =
+pub one_answers_put_unreadable : OneAnswer answers-put-unreadable-kinds.ps answers-put-unreadable-kinds.r answers-put-unreadable.Learnt
+one_answers_put_unreadable κs a x y v w p q =
     let e = p ∙ sym q in
     (λ i. (e i).next, λ i. ((e i).held, tt))
 
-pub one-lines-line-end : OneAnswer lines-line-end-kinds.ps lines-line-end-kinds.r lines-line-end.Learnt
-one-lines-line-end κs a x y v w p q = (p ∙ sym q, refl)
+pub one_lines_line_end : OneAnswer lines-line-end-kinds.ps lines-line-end-kinds.r lines-line-end.Learnt
+one_lines_line_end κs a x y v w p q = (p ∙ sym q, refl)
 
-pub one-lines-command-line : OneAnswer lines-command-line-kinds.ps lines-command-line-kinds.r lines-command-line.Learnt
-one-lines-command-line κs a x y v w p q = (p ∙ sym q, refl)
+pub one_lines_command_line : OneAnswer lines-command-line-kinds.ps lines-command-line-kinds.r lines-command-line.Learnt
+one_lines_command_line κs a x y v w p q = (p ∙ sym q, refl)
 
-pub one-lines-args-line : OneAnswer lines-args-line-kinds.ps lines-args-line-kinds.r lines-args-line.Learnt
-one-lines-args-line κs a x y v w p q = (p ∙ sym q, refl)
+pub one_lines_args_line : OneAnswer lines-args-line-kinds.ps lines-args-line-kinds.r lines-args-line.Learnt
+one_lines_args_line κs a x y v w p q = (p ∙ sym q, refl)
 
-pub one-lines-pair : OneAnswer lines-pair-kinds.ps lines-pair-kinds.r lines-pair.Learnt
-one-lines-pair κs a x y v w p q =
+pub one_lines_pair : OneAnswer lines-pair-kinds.ps lines-pair-kinds.r lines-pair.Learnt
+one_lines_pair κs a x y v w p q =
     let e = p ∙ sym q in
     (λ i. (e i).found, λ i. (tt, ((e i).words, tt)))
 
-pub one-numbers-magnitude : OneAnswer numbers-magnitude-kinds.ps numbers-magnitude-kinds.r numbers-magnitude.Learnt
-one-numbers-magnitude κs a x y v w p q = (p ∙ sym q, refl)
+pub one_numbers_magnitude : OneAnswer numbers-magnitude-kinds.ps numbers-magnitude-kinds.r numbers-magnitude.Learnt
+one_numbers_magnitude κs a x y v w p q = (p ∙ sym q, refl)
 
-pub one-numbers-number : OneAnswer numbers-number-kinds.ps numbers-number-kinds.r numbers-number.Learnt
-one-numbers-number κs a x y v w p q = (p ∙ sym q, refl)
+pub one_numbers_number : OneAnswer numbers-number-kinds.ps numbers-number-kinds.r numbers-number.Learnt
+one_numbers_number κs a x y v w p q = (p ∙ sym q, refl)

@@ -15,39 +15,39 @@ use Rattle.values.proofs.Value.less.Kinds as less-kinds
 use Rattle.values.proofs.Value.less.Reads as less
 use Rattle.values.proofs.Value.is_zero.Kinds as is-zero-kinds
 use Rattle.values.proofs.Value.is_zero.Reads as is_zero
-use Rattle.values.proofs.Value.same.Kinds as same-kinds
+use Rattle.values.proofs.Value.same.Kinds as same_kinds
 use Rattle.values.proofs.Value.same.Reads as same
 use Rattle.values.proofs.load.Kinds as load-kinds
 use Rattle.values.proofs.load.Reads as load
-use Rattle.values.proofs.keep.Kinds as keep-kinds
+use Rattle.values.proofs.keep.Kinds as keep_kinds
 use Rattle.values.proofs.keep.Reads as keep
 
 pub one_of : OneAnswer of-kinds.ps of-kinds.r of.Learnt
 one_of κs a x y v w p q = (p ∙ sym q, refl)
 
-pub one-sum : OneAnswer sum-kinds.ps sum-kinds.r sum.Learnt
-one-sum κs a x y v w p q = (p ∙ sym q, refl)
+pub one_sum : OneAnswer sum-kinds.ps sum-kinds.r sum.Learnt
+one_sum κs a x y v w p q = (p ∙ sym q, refl)
 
-pub one-difference : OneAnswer difference-kinds.ps difference-kinds.r difference.Learnt
-one-difference κs a x y v w p q = (p ∙ sym q, refl)
+pub one_difference : OneAnswer difference-kinds.ps difference-kinds.r difference.Learnt
+one_difference κs a x y v w p q = (p ∙ sym q, refl)
 
-pub one-minimum : OneAnswer minimum-kinds.ps minimum-kinds.r minimum.Learnt
-one-minimum κs a x y v w p q = (p ∙ sym q, refl)
+pub one_minimum : OneAnswer minimum-kinds.ps minimum-kinds.r minimum.Learnt
+one_minimum κs a x y v w p q = (p ∙ sym q, refl)
 
-pub one-maximum : OneAnswer maximum-kinds.ps maximum-kinds.r maximum.Learnt
-one-maximum κs a x y v w p q = (p ∙ sym q, refl)
+pub one_maximum : OneAnswer maximum-kinds.ps maximum-kinds.r maximum.Learnt
+one_maximum κs a x y v w p q = (p ∙ sym q, refl)
 
 pub one_less : OneAnswer less-kinds.ps less-kinds.r less.Learnt
 one_less κs a x y v w p q = (p ∙ sym q, refl)
 
-pub one-is-zero : OneAnswer is-zero-kinds.ps is-zero-kinds.r is_zero.Learnt
-one-is-zero κs a x y v w p q = (p ∙ sym q, refl)
+pub one_is_zero : OneAnswer is-zero-kinds.ps is-zero-kinds.r is_zero.Learnt
+one_is_zero κs a x y v w p q = (p ∙ sym q, refl)
 
-pub one_same : OneAnswer same-kinds.ps same-kinds.r same.Learnt
+pub one_same : OneAnswer same_kinds.ps same_kinds.r same.Learnt
 one_same κs a x y v w p q = (p ∙ sym q, refl)
 
-pub one-load : OneAnswer load-kinds.ps load-kinds.r load.Learnt
-one-load κs a x y v w p q = (p ∙ sym q, refl)
+pub one_load : OneAnswer load-kinds.ps load-kinds.r load.Learnt
+one_load κs a x y v w p q = (p ∙ sym q, refl)
 
-pub one-keep : OneAnswer keep-kinds.ps keep-kinds.r keep.Learnt
-one-keep κs a x y v w p q = (refl, λ i. ((p ∙ sym q) i, (tt, (tt, tt))))
+pub one_keep : OneAnswer keep_kinds.ps keep_kinds.r keep.Learnt
+one_keep κs a x y v w p q = (refl, λ i. ((p ∙ sym q) i, (tt, (tt, tt))))

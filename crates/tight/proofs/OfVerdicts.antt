@@ -12,17 +12,17 @@ use Rattle.verdicts.proofs.making.making.Reads as making-making
 use Rattle.verdicts.proofs.table.refusal.Kinds as table-refusal-kinds
 use Rattle.verdicts.proofs.table.refusal.Reads as table-refusal
 
-pub one-batching-wrong-depth : OneAnswer batching-wrong-depth-kinds.ps batching-wrong-depth-kinds.r batching-wrong-depth.Learnt
-one-batching-wrong-depth κs a x y v w p q = (p ∙ sym q, refl)
+pub one_batching_wrong_depth : OneAnswer batching-wrong-depth-kinds.ps batching-wrong-depth-kinds.r batching-wrong-depth.Learnt
+one_batching_wrong_depth κs a x y v w p q = (p ∙ sym q, refl)
 
-pub one-batching-few-rows : OneAnswer batching-few-rows-kinds.ps batching-few-rows-kinds.r batching-few-rows.Learnt
-one-batching-few-rows κs a x y v w p q = (p ∙ sym q, refl)
+pub one_batching_few_rows : OneAnswer batching-few-rows-kinds.ps batching-few-rows-kinds.r batching-few-rows.Learnt
+one_batching_few_rows κs a x y v w p q = (p ∙ sym q, refl)
 
-pub one-making-bad-formula : OneAnswer making-bad-formula-kinds.ps making-bad-formula-kinds.r making-bad-formula.Learnt
-one-making-bad-formula κs a x y v w p q = (p ∙ sym q, refl)
+pub one_making_bad_formula : OneAnswer making-bad-formula-kinds.ps making-bad-formula-kinds.r making-bad-formula.Learnt
+one_making_bad_formula κs a x y v w p q = (p ∙ sym q, refl)
 
-pub one-making-making : OneAnswer making-making-kinds.ps making-making-kinds.r making-making.Learnt
-one-making-making κs a x y v w p q = (p ∙ sym q, refl)
+pub one_making_making : OneAnswer making-making-kinds.ps making-making-kinds.r making-making.Learnt
+one_making_making κs a x y v w p q = (p ∙ sym q, refl)
 
-pub one-table-refusal : OneAnswer table-refusal-kinds.ps table-refusal-kinds.r table-refusal.Learnt
-one-table-refusal κs a x y v w p q = (p ∙ sym q, refl)
+pub one_table_refusal : OneAnswer table-refusal-kinds.ps table-refusal-kinds.r table-refusal.Learnt
+one_table_refusal κs a x y v w p q = (p ∙ sym q, refl)

@@ -5,14 +5,14 @@ use Rattle.version.proofs.Version.new.Kinds as new-kinds
 use Rattle.version.proofs.Version.new.Reads as new
 use Rattle.version.proofs.Version.increment.Kinds as increment-kinds
 use Rattle.version.proofs.Version.increment.Reads as increment
-use Rattle.version.proofs.Version.same.Kinds as same-kinds
+use Rattle.version.proofs.Version.same.Kinds as same_kinds
 use Rattle.version.proofs.Version.same.Reads as same
 
-pub one-new : OneAnswer new-kinds.ps new-kinds.r new.Learnt
-one-new κs a x y v w p q = (λ i. record { cycle = (p ∙ sym q) i }, refl)
+pub one_new : OneAnswer new-kinds.ps new-kinds.r new.Learnt
+one_new κs a x y v w p q = (λ i. record { cycle = (p ∙ sym q) i }, refl)
 
-pub one-increment : OneAnswer increment-kinds.ps increment-kinds.r increment.Learnt
-one-increment κs a x y v w p q = (λ i. record { cycle = (p ∙ sym q) i }, refl)
+pub one_increment : OneAnswer increment-kinds.ps increment-kinds.r increment.Learnt
+one_increment κs a x y v w p q = (λ i. record { cycle = (p ∙ sym q) i }, refl)
 
-pub one_same : OneAnswer same-kinds.ps same-kinds.r same.Learnt
+pub one_same : OneAnswer same_kinds.ps same_kinds.r same.Learnt
 one_same κs a x y v w p q = (p ∙ sym q, refl)

@@ -8,31 +8,31 @@ use Rattle.operating.specs.Emptying.{emptied, emptying}
 use Rattle.operations.proofs.emptying.empty.Kinds as empty-kinds
 use Rattle.operations.proofs.emptying.empty.Reads as empty
 use Rattle.engine.specs.declared.command.Answer.{Answer}
-use Rattle.commanding.specs.Command.{answered, commandIn}
+use Rattle.commanding.specs.Command.{answered, command_in}
 use Rattle.engine.proofs.command.command.Kinds as command-kinds
 use Rattle.engine.proofs.command.command.Reads as command
 use Rattle.script.specs.declared.turns.Turn.{Turn}
-use Rattle.script.specs.Turns.{tables, turned, turnIn}
+use Rattle.script.specs.Turns.{tables, turned, turn_in}
 use Rattle.script.proofs.turn.Kinds as turn-kinds
 use Rattle.script.proofs.turn.Reads as turn
 use Prim.Native.Nat.{ℕ}
 
 -- nodes, links, values, cells, log; the words of the command
-pub command-spelled : (κs : Lfts 6) (a : Dens κs command-kinds.ps) (r : Answer) (w : Lasts (ended_of 6 command-kinds.ps command-kinds.r) κs a)
+pub command_spelled : (κs : Lfts 6) (a : Dens κs command-kinds.ps) (r : Answer) (w : Lasts (ended_of 6 command-kinds.ps command-kinds.r) κs a)
     → command.Learnt κs a r (at_exit (ended_of 6 command-kinds.ps command-kinds.r) κs a w)
     ↔ (answered r.code r.value r.runs w.0 w.1.0 w.1.1.0 w.1.1.1.0 w.1.1.1.1.0
-    ≡ commandIn a.0.now a.1.0.now a.1.1.0.now a.1.1.1.0.now a.1.1.1.1.0.now a.1.1.1.1.1.0.now)
-command-spelled κs a r w = (λ p. p, λ p. p)
+    ≡ command_in a.0.now a.1.0.now a.1.1.0.now a.1.1.1.0.now a.1.1.1.1.0.now a.1.1.1.1.1.0.now)
+command_spelled κs a r w = (λ p. p, λ p. p)
 
 -- nodes, links, values, cells
-pub empty-spelled : (κs : Lfts 4) (a : Dens κs empty-kinds.ps) (r : ℕ) (w : Lasts (ended_of 4 empty-kinds.ps empty-kinds.r) κs a)
+pub empty_spelled : (κs : Lfts 4) (a : Dens κs empty-kinds.ps) (r : ℕ) (w : Lasts (ended_of 4 empty-kinds.ps empty-kinds.r) κs a)
     → empty.Learnt κs a r (at_exit (ended_of 4 empty-kinds.ps empty-kinds.r) κs a w)
     ↔ (emptied r w.0 w.1.0 w.1.1.0 w.1.1.1.0 ≡ emptying a.0.now a.1.0.now a.1.1.0.now a.1.1.1.0.now)
-empty-spelled κs a r w = (λ p. p, λ p. p)
+empty_spelled κs a r w = (λ p. p, λ p. p)
 
 -- nodes, links, values, cells, log; words, bytes out; window, and whether more comes
-pub turn-spelled : (κs : Lfts 8) (a : Dens κs turn-kinds.ps) (r : Turn) (w : Lasts (ended_of 8 turn-kinds.ps turn-kinds.r) κs a)
+pub turn_spelled : (κs : Lfts 8) (a : Dens κs turn-kinds.ps) (r : Turn) (w : Lasts (ended_of 8 turn-kinds.ps turn-kinds.r) κs a)
     → turn.Learnt κs a r (at_exit (ended_of 8 turn-kinds.ps turn-kinds.r) κs a w)
     ↔ (turned r (tables w.0 w.1.0 w.1.1.0 w.1.1.1.0 w.1.1.1.1.0) w.1.1.1.1.1.0 w.1.1.1.1.1.1.0
-    ≡ turnIn (tables a.0.now a.1.0.now a.1.1.0.now a.1.1.1.0.now a.1.1.1.1.0.now) a.1.1.1.1.1.0.now a.1.1.1.1.1.1.0.now a.1.1.1.1.1.1.1.0.now a.1.1.1.1.1.1.1.1.0)
-turn-spelled κs a r w = (λ p. p, λ p. p)
+    ≡ turn_in (tables a.0.now a.1.0.now a.1.1.0.now a.1.1.1.0.now a.1.1.1.1.0.now) a.1.1.1.1.1.0.now a.1.1.1.1.1.1.0.now a.1.1.1.1.1.1.1.0.now a.1.1.1.1.1.1.1.1.0)
+turn_spelled κs a r w = (λ p. p, λ p. p)

@@ -1,9 +1,9 @@
 // Rows 8 and 9 of the table: the batch depth, and the rows of the log.
 ghost use Rattle.std.specs.Prelude.{◌≡◌, [], max, leb};
-ghost use Rattle.counting.specs.Counts.{countedIn};
-ghost use Rattle.meaning.specs.Words.{commandOf};
-ghost use Rattle.meaning.specs.Refusals.{on, flushRows, wrongDepth, fewRows};
-ghost use Rattle.refusing.specs.Sight.{nodesAlone, sightIn};
+ghost use Rattle.counting.specs.Counts.{counted_in};
+ghost use Rattle.meaning.specs.Words.{command_of};
+ghost use Rattle.meaning.specs.Refusals.{on, flush_rows, wrong_depth, few_rows};
+ghost use Rattle.refusing.specs.Sight.{nodes_alone, sight_in};
 ghost use Rattle.refusing.specs.Asked.{wanted};
 
 use counts::reserve::live_effects;
@@ -16,7 +16,7 @@ pub const MOST_DEPTH: u64 = 64;
 
 // 8: end at depth 0, or start at depth 64.
 pub fn wrong_depth(nodes: &[u64], words: &[i64]) -> bool
-    ensures { result ≡ on (commandOf words.now) (wrongDepth (nodesAlone nodes.now)) }
+    ensures { result ≡ on (command_of words.now) (wrong_depth (nodes_alone nodes.now)) }
 {
     let depth = words::at(nodes, DEPTH);
     match number_of(words) {
@@ -28,7 +28,7 @@ pub fn wrong_depth(nodes: &[u64], words: &[i64]) -> bool
 
 // As many rows as effects are live, where the depth is such that a flush follows.
 fn flush_rows(nodes: &[u64], depth: u64) -> u64
-    ensures { result ≡ flushRows (nodesAlone nodes.now) depth }
+    ensures { result ≡ flush_rows (nodes_alone nodes.now) depth }
 {
     if words::at(nodes, DEPTH) == depth {
         return live_effects(nodes);
@@ -38,7 +38,7 @@ fn flush_rows(nodes: &[u64], depth: u64) -> u64
 
 // A new effect wants one row; a set or add at depth 0, or an end at depth 1, wants as many as effects are live.
 fn wanted_rows(nodes: &[u64], k: u64) -> u64
-    ensures { result ≡ wanted (nodesAlone nodes.now) k }
+    ensures { result ≡ wanted (nodes_alone nodes.now) k }
 {
     match k {
         3 => 1,
@@ -51,7 +51,7 @@ fn wanted_rows(nodes: &[u64], k: u64) -> u64
 
 // Whether a log has rows for any command: one, and as many as there are nodes.
 fn ample(nodes: &[u64], rows: u64) -> bool
-    ensures { result ≡ leb (max 1 (countedIn nodes.now)) rows }
+    ensures { result ≡ leb (max 1 (counted_in nodes.now)) rows }
 {
     let n = counted(nodes);
     if n == 0 {
@@ -62,7 +62,7 @@ fn ample(nodes: &[u64], rows: u64) -> bool
 
 // 9: too few log rows. Live effects are counted only for a log that might be short.
 pub fn few_rows(nodes: &[u64], rows: u64, words: &[i64]) -> bool
-    ensures { result ≡ on (commandOf words.now) (fewRows (sightIn nodes.now [] [] rows)) }
+    ensures { result ≡ on (command_of words.now) (few_rows (sight_in nodes.now [] [] rows)) }
 {
     if ample(nodes, rows) {
         return false;

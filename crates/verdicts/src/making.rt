@@ -1,13 +1,13 @@
 // Rows 5 to 7 of the table: a new node's formula, its level, and room for it.
 ghost use Rattle.std.specs.Prelude.{◌≡◌, false, [], ◌∷◌, ◌+◌, ◌*◌, min, ltb};
 ghost use Rattle.primitive.specs.Words.{LEVEL, node};
-ghost use Rattle.trees.specs.Names.{readCells};
+ghost use Rattle.trees.specs.Names.{read_cells};
 ghost use Rattle.counting.specs.Counts.{top};
-ghost use Rattle.meaning.specs.Words.{commandOf, ownerOf};
-ghost use Rattle.meaning.specs.Engine.{depthUnder};
-ghost use Rattle.meaning.specs.Reserve.{ownedLink};
-ghost use Rattle.meaning.specs.Refusals.{on, mostOwnerDepth, badFormula, tooHigh, noRoom, first};
-ghost use Rattle.refusing.specs.Sight.{nodesAlone, sightIn};
+ghost use Rattle.meaning.specs.Words.{command_of, owner_of};
+ghost use Rattle.meaning.specs.Engine.{depth_under};
+ghost use Rattle.meaning.specs.Reserve.{owned_link};
+ghost use Rattle.meaning.specs.Refusals.{on, most_owner_depth, bad_formula, too_high, no_room, first};
+ghost use Rattle.refusing.specs.Sight.{nodes_alone, sight_in};
 
 use counts::reserve::{plus, reserve};
 use counts::room::{cell_room, node_room, slot_room};
@@ -23,7 +23,7 @@ pub const MOST_OWNER_DEPTH: u64 = 16;
 
 // 5: the formula breaks a rule.
 pub fn bad_formula(nodes: &[u64], words: &[i64]) -> bool
-    ensures { result ≡ on (commandOf words.now) (badFormula (nodesAlone nodes.now)) }
+    ensures { result ≡ on (command_of words.now) (bad_formula (nodes_alone nodes.now)) }
 {
     if asks_of(words).from == 0 {
         return false;
@@ -34,7 +34,7 @@ pub fn bad_formula(nodes: &[u64], words: &[i64]) -> bool
 
 // Whether the owner depth of a node with this owner is over the greatest allowed. An unowned node's is 1.
 fn too_deep(nodes: &[u64], owner: i64) -> bool
-    ensures { result ≡ ltb mostOwnerDepth (depthUnder (λ n. node nodes.now n LEVEL) (ownerOf owner)) }
+    ensures { result ≡ ltb most_owner_depth (depth_under (λ n. node nodes.now n LEVEL) (owner_of owner)) }
 {
     let Number::Is(o) = natural(owner) else {
         return false;
@@ -44,8 +44,8 @@ fn too_deep(nodes: &[u64], owner: i64) -> bool
 
 // 6: computed of height over 64, or owner depth over 16; of cells that are a formula.
 fn too_high(nodes: &[u64], words: &[i64]) -> bool
-    ensures { on (commandOf words.now) (badFormula (nodesAlone nodes.now)) ≡ false
-        → result ≡ on (commandOf words.now) (tooHigh (nodesAlone nodes.now)) }
+    ensures { on (command_of words.now) (bad_formula (nodes_alone nodes.now)) ≡ false
+        → result ≡ on (command_of words.now) (too_high (nodes_alone nodes.now)) }
 {
     let a = asks_of(words);
     if a.makes == COMPUTED {
@@ -57,7 +57,7 @@ fn too_high(nodes: &[u64], words: &[i64]) -> bool
 
 // What a new node reserves: twice its read cells, and 1 more if it is owned.
 fn wanted_slots(formula: &[i64], owner: i64) -> u64
-    ensures { result ≡ min top (2 * readCells formula.now + ownedLink (ownerOf owner)) }
+    ensures { result ≡ min top (2 * read_cells formula.now + owned_link (owner_of owner)) }
 {
     let reads = read_cells(formula);
     let Number::Is(_) = natural(owner) else {
@@ -68,8 +68,8 @@ fn wanted_slots(formula: &[i64], owner: i64) -> u64
 
 // 7: node table full, too few cells left, or the reserve would exceed the link slots; of cells that are a formula.
 fn no_room(nodes: &[u64], links: &[u64], cells: &[i64], words: &[i64]) -> bool
-    ensures { on (commandOf words.now) (badFormula (nodesAlone nodes.now)) ≡ false
-        → result ≡ on (commandOf words.now) (noRoom (sightIn nodes.now links.now cells.now 0)) }
+    ensures { on (command_of words.now) (bad_formula (nodes_alone nodes.now)) ≡ false
+        → result ≡ on (command_of words.now) (no_room (sight_in nodes.now links.now cells.now 0)) }
 {
     let a = asks_of(words);
     if a.makes == 0 {
@@ -88,9 +88,9 @@ fn no_room(nodes: &[u64], links: &[u64], cells: &[i64], words: &[i64]) -> bool
 
 // The first of rows 5 to 7 that holds, or 0.
 pub fn making(nodes: &[u64], links: &[u64], cells: &[i64], words: &[i64]) -> u64
-    ensures { result ≡ first 5 (on (commandOf words.now) (badFormula (nodesAlone nodes.now))
-        ∷ on (commandOf words.now) (tooHigh (nodesAlone nodes.now))
-        ∷ on (commandOf words.now) (noRoom (sightIn nodes.now links.now cells.now 0)) ∷ []) }
+    ensures { result ≡ first 5 (on (command_of words.now) (bad_formula (nodes_alone nodes.now))
+        ∷ on (command_of words.now) (too_high (nodes_alone nodes.now))
+        ∷ on (command_of words.now) (no_room (sight_in nodes.now links.now cells.now 0)) ∷ []) }
 {
     if bad_formula(nodes, words) {
         return 5;

@@ -1,5 +1,5 @@
 -- `joined::flagged_at` meets its contract. Assumes nothing.
-use Rattle.resting.specs.Joined.{flaggedAt}
+use Rattle.resting.specs.Joined.{flagged_at}
 use borrow.Author.Tests.{le-leb, lt-leb}
 use borrow.Author.Rules.{rules}
 use Rattle.joined.proofs.flagged_at.Statement.{statement}
@@ -27,7 +27,7 @@ read-links-requires : tie.Need-read-links-requires
 read-links-requires c κs = search rules
 
 returns : tie.Need-returns
-unfolding flaggedAt
+unfolding flagged_at
 returns c = rw (
   ← c.before.before.before.before.before.before.before.get.ensures,
   ← c.before.before.before.before.before.before.get2.ensures,
@@ -43,7 +43,7 @@ flags-on-requires : tie.Need-flags-on-requires
 flags-on-requires c κs = search rules
 
 returns-2 : tie.Need-returns-2
-unfolding flaggedAt
+unfolding flagged_at
 returns-2 c = rw (
   ← c.before.before.before.before.before.before.before.before.get.ensures,
   ← c.before.before.before.before.before.before.before.get2.ensures,

@@ -1,17 +1,17 @@
 -- `joined::rest` meets its contract. Assumes nothing.
 use Rattle.lists.specs.Each.{every}
-use Rattle.lists.proofs.EachLaws.{every-end, every-bad, every_more}
-use Rattle.resting.specs.Joined.{restsAt, restIn}
+use Rattle.lists.proofs.EachLaws.{every_end, every_bad, every_more}
+use Rattle.resting.specs.Joined.{rests_at, rest_in}
 use mathlib.Core.Path.{◌≡◌, refl, sym, ◌∙◌}
 use Prim.Native.Nat.{◌-◌}
 use native.Mathlib.Omega.{arith}
-use borrow.Author.Tests.{not-true, not-false}
+use borrow.Author.Tests.{not_true_lem, not_false_lem}
 use borrow.Author.Rules.{rules}
 use Rattle.joined.proofs.rest.Statement.{statement}
 use Rattle.joined.proofs.rest.Tie as tie
 
 abbrev invariant-loop : tie.invariant-loop
-invariant-loop nodes links n₀ n = every (restsAt nodes links) n₀ ≡ every (restsAt nodes links) n
+invariant-loop nodes links n₀ n = every (rests_at nodes links) n₀ ≡ every (rests_at nodes links) n
 
 abbrev decreases-loop : tie.decreases-loop
 decreases-loop nodes links n₀ n = n
@@ -29,14 +29,14 @@ rests-at-requires : tie.Need-rests-at-requires invariant-loop decreases-loop
 rests-at-requires c κs = search rules
 
 returns : tie.Need-returns invariant-loop decreases-loop
-unfolding restIn
+unfolding rest_in
 returns c =
     let if1 = c.if1 in
-    let rests-at = c.before.rests-at in
+    let rests_there = c.before.rests_there in
     let loop-test = c.before.before.loop-test in
     let turn = c.before.before.before.loop in
     let counted = c.before.before.before.before.counted in
-    rw (← counted.ensures) (sym (turn.invariant ∙ every-bad _ turn.n loop-test.true (sym rests-at.ensures ∙ not-true _ if1.true)))
+    rw (← counted.ensures) (sym (turn.invariant ∙ every_bad _ turn.n loop-test.true (sym rests_there.ensures ∙ not_true_lem _ if1.true)))
 
 loop-less : tie.Need-loop-smaller invariant-loop decreases-loop
 loop-less c = omega arith
@@ -44,18 +44,18 @@ loop-less c = omega arith
 loop-again : tie.Need-loop-preserved invariant-loop decreases-loop
 loop-again c =
     let if1 = c.if1 in
-    let rests-at = c.before.rests-at in
+    let rests_there = c.before.rests_there in
     let loop-test = c.before.before.loop-test in
     let turn = c.before.before.before.loop in
-    turn.invariant ∙ every_more _ turn.n loop-test.true (sym rests-at.ensures ∙ not-false _ if1.false)
+    turn.invariant ∙ every_more _ turn.n loop-test.true (sym rests_there.ensures ∙ not_false_lem _ if1.false)
 
 returns-2 : tie.Need-returns-2 invariant-loop decreases-loop
-unfolding restIn
+unfolding rest_in
 returns-2 c =
     let loop-test = c.loop-test in
     let turn = c.before.loop in
     let counted = c.before.before.counted in
-    rw (← counted.ensures) (sym (turn.invariant ∙ every-end _ turn.n loop-test.false))
+    rw (← counted.ensures) (sym (turn.invariant ∙ every_end _ turn.n loop-test.false))
 
 pub rest-spec : {M : Type 1} → statement M
 rest-spec =

@@ -1,5 +1,5 @@
 -- `making::describe` meets its contract. Assumes nothing.
-use Rattle.operating.specs.Making.{described, setAll}
+use Rattle.operating.specs.Making.{described, set_all}
 use native.Mathlib.Omega.{arith}
 use borrow.Author.Rules.{rules}
 use Rattle.making.proofs.describe.Statement.{statement}
@@ -68,7 +68,7 @@ same_length c = omega (
 )
 
 returns : tie.Need-returns
-unfolding described setAll
+unfolding described set_all
 returns c = rw (
   ← c.before.before.before.before.before.before.before.before.before.before.before.before.before.before.before.before.before.before.before.before.before.before.before.before.before.before.before.before.before.before.before.before.before.before.before.before.before.before.before.before.before.before.before.before.before.before.before.before.before.before.at.ensures,
   ← c.before.before.before.before.before.before.before.before.before.before.before.before.before.before.before.before.before.before.before.before.before.before.before.before.before.before.before.before.before.before.before.before.before.before.before.before.before.before.before.before.before.before.before.before.before.before.before.before.word.ensures,
@@ -81,7 +81,7 @@ returns c = rw (
   ← c.before.before.before.before.before.before.before.before.before.before.before.before.before.before.before.before.before.before.before.before.before.before.before.store7.ensures,
   ← c.before.before.before.before.before.before.before.before.before.before.before.before.before.before.before.before.before.before.before.store8.ensures,
   ← c.before.before.before.before.before.before.before.before.before.before.before.before.before.before.before.store9.ensures,
-  ← c.before.before.before.before.before.before.before.before.before.before.before.read-cells.ensures,
+  ← c.before.before.before.before.before.before.before.before.before.before.before.read_cells_lem.ensures,
   ← c.before.before.before.before.before.before.before.before.before.before.store10.ensures,
   ← c.before.before.before.before.before.before.store11.ensures,
   ← c.before.before.store12.ensures,

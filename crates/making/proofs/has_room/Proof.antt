@@ -1,6 +1,6 @@
 -- `making::has_room` meets its contract. Assumes nothing.
 use native.Mathlib.Omega.{arith}
-use Rattle.operating.proofs.MakingLaws.{no_node, no_cells, some-cells}
+use Rattle.operating.proofs.MakingLaws.{no_node, no_cells, some_cells}
 use borrow.Author.Rules.{rules}
 use Rattle.making.proofs.has_room.Statement.{statement}
 use Rattle.making.proofs.has_room.Tie as tie
@@ -24,7 +24,7 @@ at-requires-2 : tie.Need-at-requires-2
 at-requires-2 c κs = search rules
 
 returns-4 : tie.Need-returns-4
-returns-4 c = some-cells _ _ _ c.before.before.before.before.at.ensures (omega (arith, c.before.before.if2.false)) c.at2.ensures c.before.if3.false
+returns-4 c = some_cells _ _ _ c.before.before.before.before.at.ensures (omega (arith, c.before.before.if2.false)) c.at2.ensures c.before.if3.false
 
 pub has-room-spec : {M : Type 1} → statement M
 has-room-spec =

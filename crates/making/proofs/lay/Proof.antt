@@ -8,7 +8,7 @@ use mir.Syntax.{w64}
 use mir.Val.{to_z, of_z}
 use mir.Facts.{to_z-of_z}
 use Rattle.operating.specs.Making.{laid}
-use Rattle.operating.proofs.MakingLaws.{lay_step, lay-start, lay_done}
+use Rattle.operating.proofs.MakingLaws.{lay_step, lay_start, lay_done}
 use Rattle.making.proofs.lay.Statement.{statement}
 use Rattle.making.proofs.lay.Tie as tie
 
@@ -19,7 +19,7 @@ abbrev decreases-loop : tie.decreases-loop
 decreases-loop cells₀ at formula i₀ cells i = length formula - i
 
 loop-holds : tie.Need-loop-init invariant-loop decreases-loop
-loop-holds c = record { long = refl; same = lay-start _ _ _ }
+loop-holds c = record { long = refl; same = lay_start _ _ _ }
 
 mul-set-word : tie.Need-overflow-mul-set-word invariant-loop decreases-loop
 mul-set-word c = search rules

@@ -1,5 +1,5 @@
 -- `making::new_computed` meets its contract. Assumes nothing.
-use Rattle.operating.specs.Making.{newComputed}
+use Rattle.operating.specs.Making.{new_computed}
 use borrow.Author.Rules.{rules}
 use Rattle.making.proofs.new_computed.Statement.{statement}
 use Rattle.making.proofs.new_computed.Tie as tie
@@ -23,7 +23,7 @@ same-length-3 : tie.Need-same-length-3
 same-length-3 c = search rules
 
 returns : tie.Need-returns
-unfolding newComputed
+unfolding new_computed
 returns c l = rw (← c.before.before.before.before.before.before.before.before.before.height.ensures, ← c.before.before.before.before.before.of.ensures) (c.before.before.before.before.make.ensures l)
 
 pub new-computed-spec : {M : Type 1} → statement M

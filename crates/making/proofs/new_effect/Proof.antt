@@ -1,5 +1,5 @@
 -- `making::new_effect` meets its contract. Assumes nothing.
-use Rattle.operating.specs.Making.{newEffect}
+use Rattle.operating.specs.Making.{new_effect}
 use borrow.Author.Rules.{rules}
 use Rattle.making.proofs.new_effect.Statement.{statement}
 use Rattle.making.proofs.new_effect.Tie as tie
@@ -41,7 +41,7 @@ same-length-5 : tie.Need-same-length-5
 same-length-5 c = search rules
 
 returns : tie.Need-returns
-unfolding newEffect
+unfolding new_effect
 returns c = rw (← c.before.before.before.before.before.before.before.before.before.before.before.before.before.before.before.before.before.before.before.before.before.before.before.before.before.before.before.before.before.before.before.before.before.depth-under.ensures, ← c.before.before.before.before.before.before.before.before.before.before.before.before.before.before.before.before.before.before.before.before.before.before.before.before.before.before.before.before.before.of.ensures, ← c.before.before.before.before.before.before.before.before.before.before.before.before.before.before.before.before.before.before.before.before.before.before.before.before.before.before.before.before.make.ensures c.before.before.before.before.before.before.before.before.before.before.before.before.before.before.before.before.before.before.before.before.before.before.before.before.before.before.before.before.before.before.before.before.before.before.before.before.before.args.links.now, ← c.before.before.before.before.before.before.before.before.before.before.before.before.before.before.before.before.before.before.before.before.before.own.ensures c.before.before.before.before.before.before.before.before.before.before.before.before.before.before.before.before.before.before.before.before.before.before.before.before.before.before.before.before.make.new.1.0, ← c.before.before.before.before.before.before.before.before.before.before.before.before.evaluate.ensures, ← c.before.before.before.before.before.end-run.ensures, ← c.before.write-row.ensures.0, ← c.before.write-row.ensures.1)
 
 pub new-effect-spec : {M : Type 1} → statement M

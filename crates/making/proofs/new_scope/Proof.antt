@@ -1,5 +1,5 @@
 -- `making::new_scope` meets its contract. Assumes nothing.
-use Rattle.operating.specs.Making.{newScope}
+use Rattle.operating.specs.Making.{new_scope}
 use borrow.Author.Rules.{rules}
 use Rattle.making.proofs.new_scope.Statement.{statement}
 use Rattle.making.proofs.new_scope.Tie as tie
@@ -32,7 +32,7 @@ same-length-4 : tie.Need-same-length-4
 same-length-4 c = search rules
 
 returns : tie.Need-returns
-unfolding newScope
+unfolding new_scope
 returns c = rw (← c.before.before.before.before.before.before.before.before.before.before.before.before.before.before.before.before.before.depth-under.ensures, ← c.before.before.before.before.before.before.before.before.before.before.before.before.of.ensures, ← c.before.before.before.before.before.before.before.before.before.before.before.make.ensures c.before.before.before.before.before.before.before.before.before.before.before.before.before.before.before.before.before.before.before.before.before.args.links.now, ← c.before.before.before.before.own.ensures c.before.before.before.before.before.before.before.before.before.before.before.make.new.1.0)
 
 pub new-scope-spec : {M : Type 1} → statement M

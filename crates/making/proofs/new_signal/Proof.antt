@@ -1,5 +1,5 @@
 -- `making::new_signal` meets its contract. Assumes nothing.
-use Rattle.operating.specs.Making.{newSignal}
+use Rattle.operating.specs.Making.{new_signal}
 use borrow.Author.Rules.{rules}
 use Rattle.making.proofs.new_signal.Statement.{statement}
 use Rattle.making.proofs.new_signal.Tie as tie
@@ -20,7 +20,7 @@ same-length-3 : tie.Need-same-length-3
 same-length-3 c = search rules
 
 returns : tie.Need-returns
-unfolding newSignal
+unfolding new_signal
 returns c l = c.before.before.before.before.make.ensures l
 
 pub new-signal-spec : {M : Type 1} → statement M

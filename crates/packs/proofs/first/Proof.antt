@@ -1,4 +1,4 @@
-use Rattle.packs.specs.Packs.{firstIn}
+use Rattle.packs.specs.Packs.{first_in}
 use borrow.Author.Rules.{rules}
 use Rattle.packs.proofs.first.Statement.{statement}
 use Rattle.packs.proofs.first.Tie as tie
@@ -25,26 +25,26 @@ sub-t6 : tie.Need-overflow-sub-t6
 sub-t6 c = search rules
 
 returns : tie.Need-returns
-unfolding firstIn
+unfolding first_in
 returns c = rw (
   c.before.enum_told.given.1,
   ← c.unended.ensures,
 )
 
 returns-2 : tie.Need-returns-2
-unfolding firstIn
+unfolding first_in
 returns-2 c = rw (
   c.before.enum-told2.given.1,
   ← c.second.ensures,
 )
 
 returns-3 : tie.Need-returns-3
-unfolding firstIn
+unfolding first_in
 returns-3 c = rw
     c.enum-told3.given.1
 
 returns-4 : tie.Need-returns-4
-unfolding firstIn
+unfolding first_in
 returns-4 c = rw
     c.enum-told4.given.1
 

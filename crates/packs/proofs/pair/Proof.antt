@@ -1,4 +1,4 @@
-use Rattle.packs.specs.Packs.{pairIn}
+use Rattle.packs.specs.Packs.{pair_in}
 use borrow.Author.Rules.{rules}
 use Rattle.packs.proofs.pair.Statement.{statement}
 use Rattle.packs.proofs.pair.Tie as tie
@@ -7,7 +7,7 @@ enum_told : tie.Need-enum-told
 enum_told c = search rules
 
 returns : tie.Need-returns
-unfolding pairIn
+unfolding pair_in
 returns c = rw (
   c.before.enum_told.given.1,
   c.if1.true,
@@ -26,24 +26,24 @@ sub-t6 : tie.Need-overflow-sub-t6
 sub-t6 c = search rules
 
 returns-2 : tie.Need-returns-2
-unfolding pairIn
+unfolding pair_in
 returns-2 c = rw (
   c.before.enum_told.given.1,
   c.if1.false,
 )
 
 returns-3 : tie.Need-returns-3
-unfolding pairIn
+unfolding pair_in
 returns-3 c = rw
     c.enum-told2.given.1
 
 returns-4 : tie.Need-returns-4
-unfolding pairIn
+unfolding pair_in
 returns-4 c = rw
     c.enum-told3.given.1
 
 returns-5 : tie.Need-returns-5
-unfolding pairIn
+unfolding pair_in
 returns-5 c = rw
     c.enum-told4.given.1
 

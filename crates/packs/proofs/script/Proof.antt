@@ -1,7 +1,7 @@
 use Prim.Native.Nat.{◌+◌}
 use Rattle.packs.specs.Packs.{line_of, mark_of}
 use lib.ListN.{drop}
-use Rattle.packs.proofs.Rests.{rest-is}
+use Rattle.packs.proofs.Rests.{rest_is}
 use mathlib.Core.Path.{◌≡◌, ap, ◌∙◌}
 use Rattle.packs.specs.Packs.{open_in}
 use borrow.Author.Tests.{eq-eqb, ne_eqb}
@@ -60,7 +60,7 @@ returns-2 c = rw (
 returns-3 : tie.Need-returns-3
 unfolding open_in
 returns-3 c =
-    let m : c.before.marked.result ≡ mark_of (drop c.before.before.before.before.line.result c.before.before.before.before.before.before.before.before.args.w.now) = c.before.marked.ensures ∙ ap mark_of (rest-is c.before.before.before.before.before.before.before.before.args.w.now c.before.before.before.before.line.result) in
+    let m : c.before.marked.result ≡ mark_of (drop c.before.before.before.before.line.result c.before.before.before.before.before.before.before.before.args.w.now) = c.before.marked.ensures ∙ ap mark_of (rest_is c.before.before.before.before.before.before.before.before.args.w.now c.before.before.before.before.line.result) in
     rw (c.before.before.before.before.before.enum-told2.given.1, ← c.before.before.before.before.line.ensures.0, ne_eqb _ _ c.before.before.before.if1.false, ← c.before.before.before.before.line.ensures.0, ← m, open_in) c.first.ensures
 
 returns-4 : tie.Need-returns-4

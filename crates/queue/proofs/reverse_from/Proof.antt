@@ -6,8 +6,8 @@ use Prim.Native.Nat.{ℕ, ◌+◌, ◌-◌, ◌≤◌}
 use native.Mathlib.Omega.{arith}
 use lib.ListN.{length}
 use borrow.Author.Rules.{rules}
-use Rattle.queue.specs.Queue.{reversed, reversedFrom}
-use Rattle.queue.proofs.QueueLaws.{count-le, reversed-more, reversed-done, length-swapped}
+use Rattle.queue.specs.Queue.{reversed, reversed_from}
+use Rattle.queue.proofs.QueueLaws.{count_le, reversed_more, reversed_done, length_swapped}
 use Rattle.queue.proofs.reverse_from.Statement.{statement}
 use Rattle.queue.proofs.reverse_from.Tie as tie
 
@@ -18,7 +18,7 @@ abbrev decreases-loop : tie.decreases-loop
 decreases-loop nodes₀ from lo₀ hi₀ nodes lo hi = hi
 
 loop-holds : tie.Need-loop-init invariant-loop decreases-loop
-loop-holds c = (refl, refl, omega (arith, c.length.ensures, count-le c.before.before.before.args.nodes.now))
+loop-holds c = (refl, refl, omega (arith, c.length.ensures, count_le c.before.before.before.args.nodes.now))
 
 sub-hi : tie.Need-overflow-sub-hi invariant-loop decreases-loop
 sub-hi c = omega arith
@@ -34,8 +34,8 @@ loop-again c =
     let swap = c.before.before.swap.ensures in
     let test = c.before.before.before.before in
     let loop = test.before.loop in (
-      loop.invariant.0 ∙ reversed-more _ _ _ test.loop-test.true ∙ ap (λ (x : List ℕ). reversed x (loop.lo + 1) (loop.hi - 1)) (sym swap),
-      ap length swap ∙ length-swapped _ _ _ ∙ loop.invariant.1,
+      loop.invariant.0 ∙ reversed_more _ _ _ test.loop-test.true ∙ ap (λ (x : List ℕ). reversed x (loop.lo + 1) (loop.hi - 1)) (sym swap),
+      ap length swap ∙ length_swapped _ _ _ ∙ loop.invariant.1,
       omega arith,
     )
 
@@ -43,9 +43,9 @@ same_length : tie.Need-same-length invariant-loop decreases-loop
 same_length c = c.before.loop.invariant.1
 
 returns : tie.Need-returns invariant-loop decreases-loop
-unfolding reversedFrom
+unfolding reversed_from
 returns c =
-    sym (ap (reversed _ _) (sym c.before.before.length.ensures) ∙ c.before.loop.invariant.0 ∙ reversed-done _ _ _ c.loop-test.false)
+    sym (ap (reversed _ _) (sym c.before.before.length.ensures) ∙ c.before.loop.invariant.0 ∙ reversed_done _ _ _ c.loop-test.false)
 
 pub reverse-from-spec : {M : Type 1} → statement M
 reverse-from-spec =

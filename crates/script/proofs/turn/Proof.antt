@@ -3,7 +3,7 @@ use mathlib.Core.Path.{◌≡◌}
 use mir.Syntax.{w64}
 use mir.Val.{to_z, of_z}
 use mir.Facts.{to_z-of_z}
-use Rattle.script.proofs.TurnLaws.{none_found, cut-found, more-found, unreadable-found, words_inside, left-inside, turn-found}
+use Rattle.script.proofs.TurnLaws.{none_found, cut_found, more_found, unreadable_found, words_inside, left_inside, turn_found}
 use borrow.Author.Rules.{rules}
 use Rattle.script.proofs.turn.Statement.{statement}
 use Rattle.script.proofs.turn.Tie as tie
@@ -30,7 +30,7 @@ same-length-3 : tie.Need-same-length-3
 same-length-3 c = search rules
 
 returns-2 : tie.Need-returns-2
-returns-2 c = cut-found _ _ _ _ _ c.before.before.before.before.before.before.before.before.before.pair.ensures c.before.before.before.before.before.before.enum_told.given.1 c.before.before.before.before.before.if1.true c.before.before.before.before.if2.false c.before.before.put-unreadable.ensures
+returns-2 c = cut_found _ _ _ _ _ c.before.before.before.before.before.before.before.before.before.pair.ensures c.before.before.before.before.before.before.enum_told.given.1 c.before.before.before.before.before.if1.true c.before.before.before.before.if2.false c.before.before.put-unreadable.ensures
 
 enum-told-2 : tie.Need-enum-told-2
 enum-told-2 c = search rules
@@ -54,7 +54,7 @@ command-requires : tie.Need-command-requires
 command-requires c κs = search rules
 
 sub-t39 : tie.Need-overflow-sub-t39
-sub-t39 c = let h = left-inside c.before.before.before.before.before.before.before.before.before.before.before.before.before.before.before.before.before.before.before.before.before.before.before.before.before.args.window.now c.before.before.before.before.before.before.before.before.before.before.before.before.before.before.before.before.before.before.before.before.before.before.before.before.before.args.words.now c.before.before.before.before.before.before.before.before.before.before.before.before.before.before.before.before.before.before.before.pair.ensures _ _ c.before.before.before.before.before.before.before.before.before.before.before.before.before.before.before.before.left.given.1 in search rules
+sub-t39 c = let h = left_inside c.before.before.before.before.before.before.before.before.before.before.before.before.before.before.before.before.before.before.before.before.before.before.before.before.before.args.window.now c.before.before.before.before.before.before.before.before.before.before.before.before.before.before.before.before.before.before.before.before.before.before.before.before.before.args.words.now c.before.before.before.before.before.before.before.before.before.before.before.before.before.before.before.before.before.before.before.pair.ensures _ _ c.before.before.before.before.before.before.before.before.before.before.before.before.before.before.before.before.left.given.1 in search rules
 
 put-answer-requires : tie.Need-put-answer-requires
 put-answer-requires c κs = search rules
@@ -63,7 +63,7 @@ same-length-4 : tie.Need-same-length-4
 same-length-4 c = search rules
 
 returns-3 : tie.Need-returns-3
-returns-3 c = more-found _ _ _ _ _ c.before.before.before.before.pair.ensures c.before.enum_told.given.1 c.if1.false
+returns-3 c = more_found _ _ _ _ _ c.before.before.before.before.pair.ensures c.before.enum_told.given.1 c.if1.false
 
 same-length-5 : tie.Need-same-length-5
 same-length-5 c = search rules
@@ -72,7 +72,7 @@ same-length-6 : tie.Need-same-length-6
 same-length-6 c = search rules
 
 returns-4 : tie.Need-returns-4
-returns-4 c = unreadable-found _ _ _ _ _ c.before.before.before.before.before.before.before.pair.ensures c.before.before.before.before.enum-told2.given.1 c.before.before.put-unreadable2.ensures
+returns-4 c = unreadable_found _ _ _ _ _ c.before.before.before.before.before.before.before.pair.ensures c.before.before.before.before.enum-told2.given.1 c.before.before.put-unreadable2.ensures
 
 -- The command keeps the length of each table, and nothing after it changes one; the search for that is dear.
 same-length-7 : tie.Need-same-length-7
@@ -97,7 +97,7 @@ same-length-13 : tie.Need-same-length-13
 same-length-13 c = search rules
 
 returns-5 : tie.Need-returns-5
-returns-5 c = let p : to_z w64 (of_z w64 c.before.before.before.before.before.before.before.before.before.before.before.before.before.command.result.value) ≡ c.before.before.before.before.before.before.before.before.before.before.before.before.before.command.result.value = to_z-of_z (search rules) in turn-found c.before.before.before.before.before.before.before.before.before.before.before.before.before.before.before.before.before.before.before.before.before.before.before.before.before.before.before.before.before.before.before.args.window.now c.before.before.before.before.before.before.before.before.before.before.before.before.before.before.before.before.before.before.before.before.before.before.before.before.before.before.before.before.before.before.before.args.words.now c.before.before.before.before.before.before.before.before.before.before.before.before.before.before.before.before.before.before.before.before.before.before.before.before.before.pair.ensures _ _ c.before.before.before.before.before.before.before.before.before.before.before.before.before.before.before.before.before.before.before.before.before.before.left.given.1 _ _ _ c.before.before.before.before.before.before.before.before.before.before.before.before.before.command.ensures (rw p at c.before.before.put-answer.ensures)
+returns-5 c = let p : to_z w64 (of_z w64 c.before.before.before.before.before.before.before.before.before.before.before.before.before.command.result.value) ≡ c.before.before.before.before.before.before.before.before.before.before.before.before.before.command.result.value = to_z-of_z (search rules) in turn_found c.before.before.before.before.before.before.before.before.before.before.before.before.before.before.before.before.before.before.before.before.before.before.before.before.before.before.before.before.before.before.before.args.window.now c.before.before.before.before.before.before.before.before.before.before.before.before.before.before.before.before.before.before.before.before.before.before.before.before.before.before.before.before.before.before.before.args.words.now c.before.before.before.before.before.before.before.before.before.before.before.before.before.before.before.before.before.before.before.before.before.before.before.before.before.pair.ensures _ _ c.before.before.before.before.before.before.before.before.before.before.before.before.before.before.before.before.before.before.before.before.before.before.left.given.1 _ _ _ c.before.before.before.before.before.before.before.before.before.before.before.before.before.command.ensures (rw p at c.before.before.put_answer.ensures)
 
 pub turn_spec : {M : Type 1} → statement M
 turn_spec =

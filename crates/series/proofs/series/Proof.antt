@@ -5,21 +5,21 @@ use native.Mathlib.Omega.{arith}
 use lib.ListN.{length}
 use borrow.Author.Rules.{rules}
 use borrow.Rule.Slice.PartMut.{same_len_mid}
-use Rattle.commanding.specs.Tables.{wellFormedIn}
-use Rattle.sequencing.specs.Series.{going, seriesFrom, seriesIn}
-use Rattle.sequencing.proofs.SeriesLaws.{series-start, step-of, is-over, stop-here, go_on, went}
+use Rattle.commanding.specs.Tables.{well_formed_in}
+use Rattle.sequencing.specs.Series.{going, series_from, series_in}
+use Rattle.sequencing.proofs.SeriesLaws.{series_start, step_of_table, is_over, stop_here, go_on, went}
 use Rattle.series.proofs.series.Statement.{statement}
 use Rattle.series.proofs.series.Tie as tie
 
 abbrev invariant-loop : tie.invariant-loop
 invariant-loop nodes₀ links₀ values₀ cells₀ rows₀ list answers₀ formed used₀ done₀ ran₀ nodes links values cells rows answers used done ran = record {
   lens : (length nodes ≡ length nodes₀) × (length links ≡ length links₀) × (length values ≡ length values₀) × (length cells ≡ length cells₀) × (length rows ≡ length rows₀) × (length answers ≡ length answers₀);
-  formed : formed ≡ wellFormedIn nodes links values cells;
+  formed : formed ≡ well_formed_in nodes links values cells;
   low : done ≤ used;
   inside : used ≤ length list;
   rows_fit : ran * 2 ≤ length rows;
   answers-fit : done * 3 ≤ length answers;
-  same : seriesFrom (length list - done) list (going nodes links values cells rows answers used done ran) ≡ seriesFrom (length list) list (going nodes₀ links₀ values₀ cells₀ rows₀ answers₀ 0 0 0);
+  same : series_from (length list - done) list (going nodes links values cells rows answers used done ran) ≡ series_from (length list) list (going nodes₀ links₀ values₀ cells₀ rows₀ answers₀ 0 0 0);
 }
 
 abbrev decreases-loop : tie.decreases-loop
@@ -31,7 +31,7 @@ well-formed-requires c κs = search rules
 loop-holds : tie.Need-loop-init invariant-loop decreases-loop
 loop-holds c =
     let a = c.before.before.before.before.before.before.before.args in
-    record { lens = (refl, refl, refl, refl, refl, refl); formed = c.well-formed-2.ensures; low = omega arith; inside = omega arith; rows_fit = omega arith; answers-fit = omega arith; same = series-start a.list.now (going a.nodes.now a.links.now a.values.now a.cells.now a.rows.now a.answers.now 0 0 0) }
+    record { lens = (refl, refl, refl, refl, refl, refl); formed = c.well-formed-2.ensures; low = omega arith; inside = omega arith; rows_fit = omega arith; answers-fit = omega arith; same = series_start a.list.now (going a.nodes.now a.links.now a.values.now a.cells.now a.rows.now a.answers.now 0 0 0) }
 
 mul_at : tie.Need-overflow-mul-at invariant-loop decreases-loop
 mul_at c = search rules
@@ -118,14 +118,14 @@ same-length-6 c =
     same_len_mid (v.done * 3) (length v.answers - v.done * 3) v.answers o.new.1.1.1.1.1.1.0 o.auto.1.1.1.1.1.1.0 ∙ v.invariant.lens.5
 
 returns : tie.Need-returns invariant-loop decreases-loop
-unfolding seriesIn
+unfolding series_in
 returns c =
     let v = c.before.before.before.before.before.before.before.before.before.before.before.before.before.before.before.before.before.before.before.before.loop in
     let a = c.before.before.before.before.before.before.before.before.before.before.before.before.before.before.before.before.before.before.before.before.before.before.before.before.before.before.before.before.args in
     let o = c.before.before.before.before.before.before.before.before.before.before.before.one in
-    let q = step-of a.list.now v.nodes v.links v.values v.cells v.rows v.answers v.used v.done v.ran _ v.invariant.formed o.ensures in
+    let q = step_of_table a.list.now v.nodes v.links v.values v.cells v.rows v.answers v.used v.done v.ran _ v.invariant.formed o.ensures in
     let some : 0 < length a.list.now - v.done = omega (arith, c.before.before.before.before.before.before.before.before.before.before.before.before.before.before.before.before.before.before.before.loop-test.true, v.invariant.low) in
-    stop-here a.list.now v.nodes v.links v.values v.cells v.rows v.answers v.used v.done v.ran v.invariant.rows_fit v.invariant.answers-fit q _ _ some c.before.why.given.1 ∙ v.invariant.same
+    stop_here a.list.now v.nodes v.links v.values v.cells v.rows v.answers v.used v.done v.ran v.invariant.rows_fit v.invariant.answers-fit q _ _ some c.before.why.given.1 ∙ v.invariant.same
 
 enum-known-words : tie.Need-enum-known-words invariant-loop decreases-loop
 enum-known-words c = search rules
@@ -135,7 +135,7 @@ add-used c =
     let v = c.before.before.before.before.before.before.before.before.before.before.before.before.before.before.before.before.before.before.before.before.loop in
     let a = c.before.before.before.before.before.before.before.before.before.before.before.before.before.before.before.before.before.before.before.before.before.before.before.before.before.before.before.before.args in
     let o = c.before.before.before.before.before.before.before.before.before.before.before.one in
-    let q = step-of a.list.now v.nodes v.links v.values v.cells v.rows v.answers v.used v.done v.ran _ v.invariant.formed o.ensures in
+    let q = step_of_table a.list.now v.nodes v.links v.values v.cells v.rows v.answers v.used v.done v.ran _ v.invariant.formed o.ensures in
     let w = went a.list.now v.nodes v.links v.values v.cells v.rows v.answers v.used v.done v.ran v.invariant.rows_fit v.invariant.answers-fit q _ _ v.invariant.inside c.before.words.given.1 in
     omega (arith, w.inside, c.before.before.before.before.before.before.before.before.before.before.before.before.before.before.before.before.before.before.before.before.before.before.before.before.before.before.before.before.well-formed.1.1.1.1.1.0.0)
 
@@ -147,7 +147,7 @@ add-ran c =
     let v = c.before.before.before.before.before.before.before.before.before.before.before.before.before.before.before.before.before.before.before.before.loop in
     let a = c.before.before.before.before.before.before.before.before.before.before.before.before.before.before.before.before.before.before.before.before.before.before.before.before.before.before.before.before.args in
     let o = c.before.before.before.before.before.before.before.before.before.before.before.one in
-    let q = step-of a.list.now v.nodes v.links v.values v.cells v.rows v.answers v.used v.done v.ran _ v.invariant.formed o.ensures in
+    let q = step_of_table a.list.now v.nodes v.links v.values v.cells v.rows v.answers v.used v.done v.ran _ v.invariant.formed o.ensures in
     let w = went a.list.now v.nodes v.links v.values v.cells v.rows v.answers v.used v.done v.ran v.invariant.rows_fit v.invariant.answers-fit q _ _ v.invariant.inside c.before.words.given.1 in
     omega (arith, w.rows_inside, v.invariant.lens.4, c.before.before.before.before.before.before.before.before.before.before.before.before.before.before.before.before.before.before.before.before.before.before.before.before.before.before.before.before.well-formed.1.1.1.1.0.0)
 
@@ -156,7 +156,7 @@ loop-less c =
     let v = c.before.before.before.before.before.before.before.before.before.before.before.before.before.before.before.before.before.before.before.before.loop in
     let a = c.before.before.before.before.before.before.before.before.before.before.before.before.before.before.before.before.before.before.before.before.before.before.before.before.before.before.before.before.args in
     let o = c.before.before.before.before.before.before.before.before.before.before.before.one in
-    let q = step-of a.list.now v.nodes v.links v.values v.cells v.rows v.answers v.used v.done v.ran _ v.invariant.formed o.ensures in
+    let q = step_of_table a.list.now v.nodes v.links v.values v.cells v.rows v.answers v.used v.done v.ran _ v.invariant.formed o.ensures in
     let w = went a.list.now v.nodes v.links v.values v.cells v.rows v.answers v.used v.done v.ran v.invariant.rows_fit v.invariant.answers-fit q _ _ v.invariant.inside c.before.words.given.1 in
     omega (arith, w.some, w.inside, c.before.before.before.before.before.before.before.before.before.before.before.before.before.before.before.before.before.before.before.loop-test.true)
 
@@ -165,7 +165,7 @@ loop-again c =
     let v = c.before.before.before.before.before.before.before.before.before.before.before.before.before.before.before.before.before.before.before.before.loop in
     let a = c.before.before.before.before.before.before.before.before.before.before.before.before.before.before.before.before.before.before.before.before.before.before.before.before.before.before.before.before.args in
     let o = c.before.before.before.before.before.before.before.before.before.before.before.one in
-    let q = step-of a.list.now v.nodes v.links v.values v.cells v.rows v.answers v.used v.done v.ran _ v.invariant.formed o.ensures in
+    let q = step_of_table a.list.now v.nodes v.links v.values v.cells v.rows v.answers v.used v.done v.ran _ v.invariant.formed o.ensures in
     let w = went a.list.now v.nodes v.links v.values v.cells v.rows v.answers v.used v.done v.ran v.invariant.rows_fit v.invariant.answers-fit q _ _ v.invariant.inside c.before.words.given.1 in
     let some : 0 < length a.list.now - v.done = omega (arith, c.before.before.before.before.before.before.before.before.before.before.before.before.before.before.before.before.before.before.before.loop-test.true, v.invariant.low) in
     let less : length a.list.now - v.done - 1 ≡ length a.list.now - (v.done + 1) = omega arith in
@@ -177,7 +177,7 @@ loop-again c =
       low = omega (arith, v.invariant.low, w.some);
       inside = w.inside;
       rows_fit = omega (arith, w.rows_inside, r);
-      answers-fit = omega (arith, w.answers-inside, y);
+      answers-fit = omega (arith, w.answers_inside, y);
       same = rw (← less) (go_on a.list.now v.nodes v.links v.values v.cells v.rows v.answers v.used v.done v.ran v.invariant.rows_fit v.invariant.answers-fit q _ _ _ some c.before.words.given.1 ∙ v.invariant.same);
     }
 
@@ -200,11 +200,11 @@ same-length-12 : tie.Need-same-length-12 invariant-loop decreases-loop
 same-length-12 c = c.before.loop.invariant.lens.5
 
 returns-2 : tie.Need-returns-2 invariant-loop decreases-loop
-unfolding seriesIn
+unfolding series_in
 returns-2 c =
     let v = c.before.loop in
     let a = c.before.before.before.before.before.before.before.before.before.args in
-    is-over a.list.now v.nodes v.links v.values v.cells v.rows v.answers v.used v.done v.ran _ c.loop-test.false ∙ v.invariant.same
+    is_over a.list.now v.nodes v.links v.values v.cells v.rows v.answers v.used v.done v.ran _ c.loop-test.false ∙ v.invariant.same
 
 pub series-spec : {M : Type 1} → statement M
 series-spec =

@@ -1,7 +1,7 @@
 -- `simmer::step` meets its contract. Assumes nothing.
 use mathlib.Core.Logic.{inl, inr}
 use borrow.Author.Rules.{rules}
-use Rattle.simmer.proofs.StepLaws.{stops, step-more, step-answered, step-ended}
+use Rattle.simmer.proofs.StepLaws.{stops, step_more, step_answered, step_ended}
 use Rattle.simmer.proofs.step.Statement.{statement}
 use Rattle.simmer.proofs.step.Tie as tie
 
@@ -67,7 +67,7 @@ same-length-8 : tie.Need-same-length-8
 same-length-8 c = search rules
 
 returns-3 : tie.Need-returns-3
-returns-3 c = step-more _ c.before.before.before.before.before.before.before.before.before.before.before.before.before.before.before.before.before.before.before.before.before.before.before.before.before.before.if2.false c.before.before.before.before.before.before.before.before.before.before.before.before.before.before.before.before.before.before.before.before.before.before.before.before.before.before.before.if1.false c.before.before.before.before.before.before.before.before.before.before.before.before.before.before.before.before.turn.ensures c.before.before.before.before.enum_told.given.1 c.before.before.fill.ensures
+returns-3 c = step_more _ c.before.before.before.before.before.before.before.before.before.before.before.before.before.before.before.before.before.before.before.before.before.before.before.before.before.before.if2.false c.before.before.before.before.before.before.before.before.before.before.before.before.before.before.before.before.before.before.before.before.before.before.before.before.before.before.before.if1.false c.before.before.before.before.before.before.before.before.before.before.before.before.before.before.before.before.turn.ensures c.before.before.before.before.enum_told.given.1 c.before.before.fill.ensures
 
 same-length-9 : tie.Need-same-length-9
 same-length-9 c = c.before.before.before.before.before.before.before.before.before.before.before.before.before.before.before.before.turn.auto.0
@@ -94,7 +94,7 @@ same-length-16 : tie.Need-same-length-16
 same-length-16 c = search rules
 
 returns-4 : tie.Need-returns-4
-returns-4 c = step-answered _ c.before.before.before.before.before.before.before.before.before.before.before.before.before.before.before.before.before.before.before.before.before.before.before.before.before.before.if2.false c.before.before.before.before.before.before.before.before.before.before.before.before.before.before.before.before.before.before.before.before.before.before.before.before.before.before.before.if1.false c.before.before.before.before.before.before.before.before.before.before.before.before.before.before.before.before.turn.ensures _ _ c.before.before.before.before.what.given.1 c.before.before.after.ensures
+returns-4 c = step_answered _ c.before.before.before.before.before.before.before.before.before.before.before.before.before.before.before.before.before.before.before.before.before.before.before.before.before.before.if2.false c.before.before.before.before.before.before.before.before.before.before.before.before.before.before.before.before.before.before.before.before.before.before.before.before.before.before.before.if1.false c.before.before.before.before.before.before.before.before.before.before.before.before.before.before.before.before.turn.ensures _ _ c.before.before.before.before.what.given.1 c.before.before.after.ensures
 
 same-length-17 : tie.Need-same-length-17
 same-length-17 c = c.before.before.before.before.before.before.before.before.before.before.before.before.before.before.before.turn.auto.0
@@ -121,7 +121,7 @@ same-length-24 : tie.Need-same-length-24
 same-length-24 c = search rules
 
 returns-5 : tie.Need-returns-5
-returns-5 c = step-ended _ c.before.before.before.before.before.before.before.before.before.before.before.before.before.before.before.before.before.before.before.before.before.before.before.before.before.if2.false c.before.before.before.before.before.before.before.before.before.before.before.before.before.before.before.before.before.before.before.before.before.before.before.before.before.before.if1.false c.before.before.before.before.before.before.before.before.before.before.before.before.before.before.before.turn.ensures _ c.before.before.before.what2.given.1
+returns-5 c = step_ended _ c.before.before.before.before.before.before.before.before.before.before.before.before.before.before.before.before.before.before.before.before.before.before.before.before.before.if2.false c.before.before.before.before.before.before.before.before.before.before.before.before.before.before.before.before.before.before.before.before.before.before.before.before.before.before.if1.false c.before.before.before.before.before.before.before.before.before.before.before.before.before.before.before.turn.ensures _ c.before.before.before.what2.given.1
 
 pub step_spec : {M : Type 1} → statement M
 step_spec =

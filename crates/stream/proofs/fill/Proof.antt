@@ -1,13 +1,13 @@
 use native.Mathlib.Omega.{arith}
 use borrow.Author.Tests.{eqb-true}
-use Rattle.stream.proofs.Fronts.{kept-front, kept-behind}
+use Rattle.stream.proofs.Fronts.{kept_front, kept_behind}
 use borrow.Author.Rules.{rules}
 use Rattle.stream.proofs.fill.Statement.{statement}
 use Rattle.stream.proofs.fill.Tie as tie
 use Rattle.stream.proofs.fill.Reads as reads
 use Rattle.stream.proofs.fill.Lts as lts
 use Rattle.io.proofs.count.Reads as count-reads
-use Rattle.libc.proofs.read.Reads as read-reads
+use Rattle.libc.proofs.read.Reads as read_reads
 use Rattle.os.proofs.fail.Reads as fail-reads
 use Rattle.stream.proofs.shift.Reads as shift-reads
 
@@ -20,7 +20,7 @@ same_length c = search rules
 returns : tie.Need-returns
 returns c =
     let long = c.before.before.before.shift.ensures.long in
-    record { front = search rules; kept = kept-front _ _ _ long c.before.before.before.shift.ensures.same; more = omega (arith, long); within = c.before.before.before.shift.ensures.upto; last = λ _. long }
+    record { front = search rules; kept = kept_front _ _ _ long c.before.before.before.shift.ensures.same; more = omega (arith, long); within = c.before.before.before.shift.ensures.upto; last = λ _. long }
 
 sub_part : tie.Need-overflow-sub-part
 sub_part c = search rules
@@ -52,7 +52,7 @@ same-length-2 c = search rules
 returns-2 : tie.Need-returns-2
 returns-2 c =
     let long = c.before.before.before.before.before.before.before.before.before.before.before.before.before.shift.ensures.long in
-    record { front = search rules; kept = kept-behind _ c.before.before.before.before.before.before.before.before.before.before.before.before.before.shift.new.0 _ c.before.before.before.before.before.before.before.before.before.before.before.before.before.shift.result c.before.before.before.before.before.before.before.before.before.before.before.before.before.shift.ensures.same; more = omega (arith, long); within = omega (arith, same-length-2 c, c.before.before.before.before.before.before.before.before.before.before.before.before.before.shift.ensures.upto, c.before.before.count.ensures.0.0); last = λ h. omega (arith, long, eqb-true c.before.before.count.result 0 h) }
+    record { front = search rules; kept = kept_behind _ c.before.before.before.before.before.before.before.before.before.before.before.before.before.shift.new.0 _ c.before.before.before.before.before.before.before.before.before.before.before.before.before.shift.result c.before.before.before.before.before.before.before.before.before.before.before.before.before.shift.ensures.same; more = omega (arith, long); within = omega (arith, same-length-2 c, c.before.before.before.before.before.before.before.before.before.before.before.before.before.shift.ensures.upto, c.before.before.count.ensures.0.0); last = λ h. omega (arith, long, eqb-true c.before.before.count.result 0 h) }
 
 pub fill_spec : {M : Type 1} → statement M
 fill_spec =

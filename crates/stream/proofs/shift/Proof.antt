@@ -4,7 +4,7 @@ use mathlib.Core.List.{[]}
 use lib.Seq.{paste, paste-zero}
 use Prim.Native.Nat.{◌+◌, ◌-◌, ◌≤◌, min}
 use native.Mathlib.Omega.{arith}
-use Rattle.stream.proofs.Fronts.{moved-next, moved_all, moved-count, unread-none}
+use Rattle.stream.proofs.Fronts.{moved_next, moved_all, moved_count, unread_none}
 use borrow.Author.Rules.{rules}
 use Rattle.stream.proofs.shift.Statement.{statement}
 use Rattle.stream.proofs.shift.Tie as tie
@@ -23,7 +23,7 @@ least-requires c κs = search rules
 
 returns : tie.Need-returns invariant-loop decreases-loop
 returns c =
-    let none : _ ≡ [] = unread-none c.before.before.before.args.buf.now c.before.before.before.args.at c.before.before.before.args.end (omega (arith, c.before.least.ensures, c.if1.true)) in
+    let none : _ ≡ [] = unread_none c.before.before.before.args.buf.now c.before.before.before.args.at c.before.before.before.args.end (omega (arith, c.before.least.ensures, c.if1.true)) in
     record { long = sym (ap length none); same = sym none; upto = omega arith }
 
 loop-holds : tie.Need-loop-init invariant-loop decreases-loop
@@ -50,7 +50,7 @@ loop-again c =
     let at = c.before.before.before.before.before.before.args.at in
     let at_from : c.before.before.loop.from ≡ at + c.before.before.loop.to = c.before.before.loop.invariant.step in
     let stop : c.before.before.before.before.least.result ≡ min c.before.before.before.before.before.before.args.end (length buf) = c.before.before.before.before.least.ensures in
-    record { step = omega arith; upto = omega arith; same = rw (c.before.before.loop.invariant.same, at_from) (moved-next buf at c.before.before.loop.to (omega arith)); long = rw length-set c.before.before.loop.invariant.long }
+    record { step = omega arith; upto = omega arith; same = rw (c.before.before.loop.invariant.same, at_from) (moved_next buf at c.before.before.loop.to (omega arith)); long = rw length-set c.before.before.loop.invariant.long }
 
 same_length : tie.Need-same-length invariant-loop decreases-loop
 same_length c = search rules
@@ -61,7 +61,7 @@ returns-2 c =
     let at = c.before.before.before.before.before.args.at in
     let end = c.before.before.before.before.before.args.end in
     let all : at + c.before.loop.to ≡ min end (length buf) = omega arith in
-    record { long = moved-count buf at end c.before.loop.to all; same = rw c.before.loop.invariant.same (moved_all buf at end c.before.loop.to all); upto = omega (arith, c.before.loop.invariant.long) }
+    record { long = moved_count buf at end c.before.loop.to all; same = rw c.before.loop.invariant.same (moved_all buf at end c.before.loop.to all); upto = omega (arith, c.before.loop.invariant.long) }
 
 pub shift-spec : {M : Type 1} → statement M
 shift-spec =

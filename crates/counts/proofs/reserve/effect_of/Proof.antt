@@ -1,5 +1,5 @@
 -- `counts::reserve::effect_of` meets its contract. Assumes nothing.
-use Rattle.counting.specs.Counts.{effectOf}
+use Rattle.counting.specs.Counts.{effect_of}
 use borrow.Author.Tests.{eq-eqb, ne_eqb}
 use borrow.Author.Rules.{rules}
 use Rattle.counts.proofs.reserve.effect_of.Statement.{statement}
@@ -12,7 +12,7 @@ get-requires-2 : tie.Need-get-requires-2
 get-requires-2 c κs = search rules
 
 returns : tie.Need-returns
-unfolding effectOf
+unfolding effect_of
 returns c = rw (
   ← c.before.before.get.ensures,
   ← c.before.get2.ensures,
@@ -20,7 +20,7 @@ returns c = rw (
 )
 
 returns-2 : tie.Need-returns-2
-unfolding effectOf
+unfolding effect_of
 returns-2 c = rw (
   ← c.before.before.before.get.ensures,
   ← c.before.before.get2.ensures,
@@ -29,7 +29,7 @@ returns-2 c = rw (
 )
 
 returns-3 : tie.Need-returns-3
-unfolding effectOf
+unfolding effect_of
 returns-3 c = rw (
   ← c.before.before.before.get.ensures,
   ← c.before.before.get2.ensures,

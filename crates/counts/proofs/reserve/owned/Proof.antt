@@ -1,5 +1,5 @@
 -- `counts::reserve::owned` meets its contract. Assumes nothing.
-use Rattle.counting.proofs.Sums.{owned-some}
+use Rattle.counting.proofs.Sums.{owned_some}
 use borrow.Author.Rules.{rules}
 use Rattle.counts.proofs.reserve.owned.Statement.{statement}
 use Rattle.counts.proofs.reserve.owned.Tie as tie
@@ -8,7 +8,7 @@ returns : tie.Need-returns
 returns c = search rules
 
 returns-2 : tie.Need-returns-2
-returns-2 c = owned-some _ c.if1.false
+returns-2 c = owned_some _ c.if1.false
 
 pub owned-spec : {M : Type 1} → statement M
 owned-spec = tie.close (tie.spec returns returns-2)

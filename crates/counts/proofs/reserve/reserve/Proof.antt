@@ -3,13 +3,13 @@ use mathlib.Core.Path.{◌≡◌, ap, ◌∙◌}
 use Prim.Native.Nat.{ℕ, ◌-◌, ◌≤◌, min}
 use native.Mathlib.Omega.{arith}
 use borrow.Author.Rules.{rules}
-use Rattle.counting.specs.Counts.{total, top, reserveOf, reserveIn, countedIn}
-use Rattle.counting.proofs.Sums.{total-none, stopped_more}
+use Rattle.counting.specs.Counts.{total, top, reserve_of, reserve_in, counted_in}
+use Rattle.counting.proofs.Sums.{total_none, stopped_more}
 use Rattle.counts.proofs.reserve.reserve.Statement.{statement}
 use Rattle.counts.proofs.reserve.reserve.Tie as tie
 
 abbrev invariant-loop : tie.invariant-loop
-invariant-loop nodes end n₀ sum₀ n sum = (n ≤ end) × (sum ≡ min top (total (reserveOf nodes) n))
+invariant-loop nodes end n₀ sum₀ n sum = (n ≤ end) × (sum ≡ min top (total (reserve_of nodes) n))
 
 abbrev decreases-loop : tie.decreases-loop
 decreases-loop nodes end n₀ sum₀ n sum = end - n
@@ -18,7 +18,7 @@ counted-requires : tie.Need-counted-requires invariant-loop decreases-loop
 counted-requires c κs = search rules
 
 loop-holds : tie.Need-loop-init invariant-loop decreases-loop
-loop-holds c = (omega arith, omega (arith, total-none (reserveOf c.before.before.args.nodes.now)))
+loop-holds c = (omega arith, omega (arith, total_none (reserve_of c.before.before.args.nodes.now)))
 
 reserve-of-requires : tie.Need-reserve-of-requires invariant-loop decreases-loop
 reserve-of-requires c κs = search rules
@@ -36,10 +36,10 @@ loop-again : tie.Need-loop-preserved invariant-loop decreases-loop
 loop-again c = (omega arith, stopped_more _ _ c.before.before.before.loop.invariant.1 c.before.reserve-of.ensures c.plus.ensures)
 
 returns : tie.Need-returns invariant-loop decreases-loop
-unfolding reserveIn
+unfolding reserve_in
 returns c =
-    let last : c.before.loop.n ≡ countedIn c.before.before.before.before.args.nodes.now = omega (arith, c.loop-test.false, c.before.loop.invariant.0, c.before.before.counted.ensures) in
-    c.before.loop.invariant.1 ∙ ap (λ (n : ℕ). min top (total (reserveOf c.before.before.before.before.args.nodes.now) n)) last
+    let last : c.before.loop.n ≡ counted_in c.before.before.before.before.args.nodes.now = omega (arith, c.loop-test.false, c.before.loop.invariant.0, c.before.before.counted.ensures) in
+    c.before.loop.invariant.1 ∙ ap (λ (n : ℕ). min top (total (reserve_of c.before.before.before.before.args.nodes.now) n)) last
 
 pub reserve_spec : {M : Type 1} → statement M
 reserve_spec =

@@ -1,7 +1,7 @@
 -- `counts::reserve::reserve_of` meets its contract. Assumes nothing.
 use native.Mathlib.Omega.{arith}
-use Rattle.counting.proofs.Sums.{owned-most}
-use Rattle.counting.specs.Counts.{reserveOf}
+use Rattle.counting.proofs.Sums.{owned_most}
+use Rattle.counting.specs.Counts.{reserve_of}
 use borrow.Author.Tests.{eq-eqb, ne_eqb}
 use borrow.Author.Rules.{rules}
 use Rattle.counts.proofs.reserve.reserve_of.Statement.{statement}
@@ -11,7 +11,7 @@ get-requires : tie.Need-get-requires
 get-requires c κs = search rules
 
 returns : tie.Need-returns
-unfolding reserveOf
+unfolding reserve_of
 returns c = rw (
   ← c.before.get.ensures,
   eq-eqb _ _ c.if1.true,
@@ -24,7 +24,7 @@ plus-requires : tie.Need-plus-requires
 plus-requires c κs = search rules
 
 returns-2 : tie.Need-returns-2
-unfolding reserveOf
+unfolding reserve_of
 returns-2 c = rw (
   ← c.before.before.before.before.get.ensures,
   ne_eqb _ _ c.before.before.before.if1.false,
@@ -37,7 +37,7 @@ get-requires-3 : tie.Need-get-requires-3
 get-requires-3 c κs = search rules
 
 returns-3 : tie.Need-returns-3
-unfolding reserveOf
+unfolding reserve_of
 returns-3 c = rw (
   ← c.before.before.before.before.before.get.ensures,
   ne_eqb _ _ c.before.before.before.before.if1.false,
@@ -60,7 +60,7 @@ plus-requires-3 : tie.Need-plus-requires-3
 plus-requires-3 c κs = search rules
 
 returns-4 : tie.Need-returns-4
-unfolding reserveOf
+unfolding reserve_of
 returns-4 c = rw (
   ← c.before.before.before.before.before.before.before.before.before.before.get.ensures,
   ne_eqb _ _ c.before.before.before.before.before.before.before.before.before.if1.false,
@@ -75,7 +75,7 @@ returns-4 c = rw (
     (omega (arith, c.before.plus2.ensures, c.plus3.ensures))
 
 returns-5 : tie.Need-returns-5
-unfolding reserveOf
+unfolding reserve_of
 returns-5 c = rw (
   ← c.before.before.before.before.before.before.before.before.get.ensures,
   ne_eqb _ _ c.before.before.before.before.before.before.before.if1.false,
@@ -87,7 +87,7 @@ returns-5 c = rw (
   ← c.before.owned.ensures,
   ne_eqb _ _ c.if4.false,
 )
-    (omega (arith, c.before.owned.ensures, owned-most c.before.before.get4.result))
+    (omega (arith, c.before.owned.ensures, owned_most c.before.before.get4.result))
 
 pub reserve-of-spec : {M : Type 1} → statement M
 reserve-of-spec =

@@ -1,24 +1,24 @@
 -- `counts::room::carry` meets its contract. Assumes nothing.
-use Rattle.counting.specs.Counts.{carryIn, wholeRows, withinAll}
-use borrow.Author.Tests.{eq-eqb, ne_eqb, not-true, not-false}
+use Rattle.counting.specs.Counts.{carry_in, whole_rows, within_all}
+use borrow.Author.Tests.{eq-eqb, ne_eqb, not_true_lem, not_false_lem}
 use borrow.Author.Rules.{rules}
 use Rattle.counts.proofs.room.carry.Statement.{statement}
 use Rattle.counts.proofs.room.carry.Tie as tie
 
 returns : tie.Need-returns
-unfolding carryIn wholeRows withinAll
+unfolding carry_in whole_rows within_all
 returns c = rw
     (ne_eqb _ _ c.if1.true)
 
 returns-2 : tie.Need-returns-2
-unfolding carryIn wholeRows withinAll
+unfolding carry_in whole_rows within_all
 returns-2 c = rw (
   eq-eqb _ _ c.before.if1.false,
   ne_eqb _ _ c.if2.true,
 )
 
 returns-3 : tie.Need-returns-3
-unfolding carryIn wholeRows withinAll
+unfolding carry_in whole_rows within_all
 returns-3 c = rw (
   eq-eqb _ _ c.before.before.if1.false,
   eq-eqb _ _ c.before.if2.false,
@@ -32,14 +32,14 @@ within-requires : tie.Need-within-requires
 within-requires c κs = search rules
 
 returns-4 : tie.Need-returns-4
-unfolding carryIn wholeRows withinAll
+unfolding carry_in whole_rows within_all
 returns-4 c = rw (
   eq-eqb _ _ c.before.before.before.before.before.if1.false,
   eq-eqb _ _ c.before.before.before.before.if2.false,
   eq-eqb _ _ c.before.before.before.if3.false,
   ← c.before.before.node-room.ensures,
   ← c.before.within.ensures,
-  not-true c.before.within.result c.if4.true,
+  not_true_lem c.before.within.result c.if4.true,
 )
 
 slot-room-requires : tie.Need-slot-room-requires
@@ -49,17 +49,17 @@ within-requires-2 : tie.Need-within-requires-2
 within-requires-2 c κs = search rules
 
 returns-5 : tie.Need-returns-5
-unfolding carryIn wholeRows withinAll
+unfolding carry_in whole_rows within_all
 returns-5 c = rw (
   eq-eqb _ _ c.before.before.before.before.before.before.before.before.if1.false,
   eq-eqb _ _ c.before.before.before.before.before.before.before.if2.false,
   eq-eqb _ _ c.before.before.before.before.before.before.if3.false,
   ← c.before.before.before.before.before.node-room.ensures,
   ← c.before.before.before.before.within.ensures,
-  not-false c.before.before.before.before.within.result c.before.before.before.if4.false,
+  not_false_lem c.before.before.before.before.within.result c.before.before.before.if4.false,
   ← c.before.before.slot-room.ensures,
   ← c.before.within2.ensures,
-  not-true c.before.within2.result c.if5.true,
+  not_true_lem c.before.within2.result c.if5.true,
 )
 
 cell-room-requires : tie.Need-cell-room-requires
@@ -69,40 +69,40 @@ within-requires-3 : tie.Need-within-requires-3
 within-requires-3 c κs = search rules
 
 returns-6 : tie.Need-returns-6
-unfolding carryIn wholeRows withinAll
+unfolding carry_in whole_rows within_all
 returns-6 c = rw (
   eq-eqb _ _ c.before.before.before.before.before.before.before.before.before.before.before.if1.false,
   eq-eqb _ _ c.before.before.before.before.before.before.before.before.before.before.if2.false,
   eq-eqb _ _ c.before.before.before.before.before.before.before.before.before.if3.false,
   ← c.before.before.before.before.before.before.before.before.node-room.ensures,
   ← c.before.before.before.before.before.before.before.within.ensures,
-  not-false c.before.before.before.before.before.before.before.within.result c.before.before.before.before.before.before.if4.false,
+  not_false_lem c.before.before.before.before.before.before.before.within.result c.before.before.before.before.before.before.if4.false,
   ← c.before.before.before.before.before.slot-room.ensures,
   ← c.before.before.before.before.within2.ensures,
-  not-false c.before.before.before.before.within2.result c.before.before.before.if5.false,
+  not_false_lem c.before.before.before.before.within2.result c.before.before.before.if5.false,
   ← c.before.before.cell_room.ensures,
   ← c.before.within3.ensures,
-  not-true c.before.within3.result c.if6.true,
+  not_true_lem c.before.within3.result c.if6.true,
 )
 
 mul-result : tie.Need-overflow-mul-result
 mul-result c = search rules
 
 returns-7 : tie.Need-returns-7
-unfolding carryIn wholeRows withinAll
+unfolding carry_in whole_rows within_all
 returns-7 c = rw (
   eq-eqb _ _ c.before.before.before.before.before.before.before.before.before.before.before.if1.false,
   eq-eqb _ _ c.before.before.before.before.before.before.before.before.before.before.if2.false,
   eq-eqb _ _ c.before.before.before.before.before.before.before.before.before.if3.false,
   ← c.before.before.before.before.before.before.before.before.node-room.ensures,
   ← c.before.before.before.before.before.before.before.within.ensures,
-  not-false c.before.before.before.before.before.before.before.within.result c.before.before.before.before.before.before.if4.false,
+  not_false_lem c.before.before.before.before.before.before.before.within.result c.before.before.before.before.before.before.if4.false,
   ← c.before.before.before.before.before.slot-room.ensures,
   ← c.before.before.before.before.within2.ensures,
-  not-false c.before.before.before.before.within2.result c.before.before.before.if5.false,
+  not_false_lem c.before.before.before.before.within2.result c.before.before.before.if5.false,
   ← c.before.before.cell_room.ensures,
   ← c.before.within3.ensures,
-  not-false c.before.within3.result c.if6.false,
+  not_false_lem c.before.within3.result c.if6.false,
 )
 
 pub carry-spec : {M : Type 1} → statement M

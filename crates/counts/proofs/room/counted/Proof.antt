@@ -1,5 +1,5 @@
 -- `counts::room::counted` meets its contract. Assumes nothing.
-use Rattle.counting.specs.Counts.{countedIn}
+use Rattle.counting.specs.Counts.{counted_in}
 use native.Mathlib.Omega.{arith}
 use borrow.Author.Rules.{rules}
 use Rattle.counts.proofs.room.counted.Statement.{statement}
@@ -12,11 +12,11 @@ at-requires : tie.Need-at-requires
 at-requires c κs = search rules
 
 returns : tie.Need-returns
-unfolding countedIn
+unfolding counted_in
 returns c = omega (arith, c.before.before.node-room.ensures, c.before.at.ensures)
 
 returns-2 : tie.Need-returns-2
-unfolding countedIn
+unfolding counted_in
 returns-2 c = omega (arith, c.before.before.node-room.ensures, c.before.at.ensures)
 
 pub counted_spec : {M : Type 1} → statement M

@@ -1,5 +1,5 @@
 -- `described::formulas::cell_lower` meets its contract. Assumes nothing.
-use Rattle.telling.specs.Formulas.{cellLower}
+use Rattle.telling.specs.Formulas.{cell_lower}
 use borrow.Author.Rules.{rules}
 use Rattle.described.proofs.formulas.cell_lower.Statement.{statement}
 use Rattle.described.proofs.formulas.cell_lower.Tie as tie
@@ -14,7 +14,7 @@ enum_told : tie.Need-enum-told
 enum_told c = search rules
 
 returns : tie.Need-returns
-unfolding cellLower
+unfolding cell_lower
 returns c = rw (
   ← c.before.before.name.ensures,
   c.enum_told.given.1,
@@ -24,7 +24,7 @@ lower-requires : tie.Need-lower-requires
 lower-requires c κs = search rules
 
 returns-2 : tie.Need-returns-2
-unfolding cellLower
+unfolding cell_lower
 returns-2 c = rw (
   ← c.before.before.before.before.name.ensures,
   c.before.before.m.given.1,

@@ -1,19 +1,19 @@
 -- `described::levels::level_kept` meets its contract. Assumes nothing.
-use Rattle.telling.specs.Levels.{levelKept}
+use Rattle.telling.specs.Levels.{level_kept}
 use borrow.Author.Tests.{le-leb, lt-leb}
 use borrow.Author.Rules.{rules}
 use Rattle.described.proofs.levels.level_kept.Statement.{statement}
 use Rattle.described.proofs.levels.level_kept.Tie as tie
 
 returns : tie.Need-returns
-unfolding levelKept
+unfolding level_kept
 returns c = rw (lt-leb _ _ c.if1.true)
 
 get-requires : tie.Need-get-requires
 get-requires c κs = search rules
 
 returns-2 : tie.Need-returns-2
-unfolding levelKept
+unfolding level_kept
 returns-2 c = rw (
   le-leb _ _ c.before.if1.false,
   ← c.get.ensures,

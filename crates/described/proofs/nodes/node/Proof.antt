@@ -1,5 +1,5 @@
 -- `described::nodes::node` meets its contract. Assumes nothing.
-use Rattle.telling.specs.Nodes.{nodeIn}
+use Rattle.telling.specs.Nodes.{node_in}
 use borrow.Author.Tests.{eq-eqb, ne_eqb}
 use borrow.Author.Rules.{rules}
 use Rattle.described.proofs.nodes.node.Statement.{statement}
@@ -12,7 +12,7 @@ signal-requires : tie.Need-signal-requires
 signal-requires c κs = search rules
 
 returns : tie.Need-returns
-unfolding nodeIn
+unfolding node_in
 returns c = rw (
   ← c.before.before.get.ensures,
   eq-eqb _ _ c.before.if1.true,
@@ -23,7 +23,7 @@ computed-requires : tie.Need-computed-requires
 computed-requires c κs = search rules
 
 returns-2 : tie.Need-returns-2
-unfolding nodeIn
+unfolding node_in
 returns-2 c = rw (
   ← c.before.before.before.get.ensures,
   ne_eqb _ _ c.before.before.if1.false,
@@ -35,7 +35,7 @@ effect-requires : tie.Need-effect-requires
 effect-requires c κs = search rules
 
 returns-3 : tie.Need-returns-3
-unfolding nodeIn
+unfolding node_in
 returns-3 c = rw (
   ← c.before.before.before.before.get.ensures,
   ne_eqb _ _ c.before.before.before.if1.false,
@@ -48,7 +48,7 @@ scope-requires : tie.Need-scope-requires
 scope-requires c κs = search rules
 
 returns-4 : tie.Need-returns-4
-unfolding nodeIn
+unfolding node_in
 returns-4 c = rw (
   ← c.before.before.before.before.before.get.ensures,
   ne_eqb _ _ c.before.before.before.before.if1.false,
@@ -59,7 +59,7 @@ returns-4 c = rw (
 )
 
 returns-5 : tie.Need-returns-5
-unfolding nodeIn
+unfolding node_in
 returns-5 c = rw (
   ← c.before.before.before.before.get.ensures,
   ne_eqb _ _ c.before.before.before.if1.false,

@@ -1,6 +1,6 @@
 -- `described::nodes::scope` meets its contract. Assumes nothing.
 use Rattle.described.proofs.LevelLaws.{kept_whole}
-use Rattle.telling.specs.Nodes.{scopeIn}
+use Rattle.telling.specs.Nodes.{scope_in}
 use borrow.Author.Tests.{le-leb, lt-leb}
 use borrow.Author.Rules.{rules}
 use Rattle.described.proofs.nodes.scope.Statement.{statement}
@@ -10,7 +10,7 @@ get-requires : tie.Need-get-requires
 get-requires c κs = search rules
 
 returns : tie.Need-returns
-unfolding scopeIn
+unfolding scope_in
 returns c = rw (
   ← c.before.get.ensures,
   lt-leb _ _ c.if1.true,
@@ -20,7 +20,7 @@ get-requires-2 : tie.Need-get-requires-2
 get-requires-2 c κs = search rules
 
 returns-2 : tie.Need-returns-2
-unfolding scopeIn
+unfolding scope_in
 returns-2 c = rw (
   ← c.before.before.before.get.ensures,
   le-leb _ _ c.before.before.if1.false,
@@ -35,7 +35,7 @@ level-kept-requires : tie.Need-level-kept-requires
 level-kept-requires c κs = search rules
 
 returns-3 : tie.Need-returns-3
-unfolding scopeIn
+unfolding scope_in
 returns-3 c = rw (← c.before.before.before.before.before.get.ensures, le-leb _ _ c.before.before.before.before.if1.false, ← c.before.before.before.get2.ensures, le-leb _ _ c.before.before.if2.false) (kept_whole _ _ _ _ c.level-kept.ensures c.before.depth-under.ensures)
 
 pub scope-spec : {M : Type 1} → statement M

@@ -1,5 +1,5 @@
 -- `described::nodes::stands_alone` meets its contract. Assumes nothing.
-use Rattle.telling.specs.Nodes.{standsAlone}
+use Rattle.telling.specs.Nodes.{stands_alone}
 use borrow.Author.Tests.{eq-eqb, ne_eqb}
 use borrow.Author.Rules.{rules}
 use Rattle.described.proofs.nodes.stands_alone.Statement.{statement}
@@ -9,7 +9,7 @@ get-requires : tie.Need-get-requires
 get-requires c κs = search rules
 
 returns : tie.Need-returns
-unfolding standsAlone
+unfolding stands_alone
 returns c = rw (
   ← c.before.get.ensures,
   ne_eqb _ _ c.if1.true,
@@ -19,7 +19,7 @@ get-requires-2 : tie.Need-get-requires-2
 get-requires-2 c κs = search rules
 
 returns-2 : tie.Need-returns-2
-unfolding standsAlone
+unfolding stands_alone
 returns-2 c = rw (
   ← c.before.before.get.ensures,
   eq-eqb _ _ c.before.if1.false,

@@ -1,5 +1,5 @@
 -- `engine::command::command` meets its contract. Assumes nothing.
-use Rattle.commanding.proofs.EngineLaws.{command-tested}
+use Rattle.commanding.proofs.EngineLaws.{command_tested}
 use borrow.Author.Rules.{rules}
 use Rattle.engine.proofs.command.command.Statement.{statement}
 use Rattle.engine.proofs.command.command.Tie as tie
@@ -26,7 +26,7 @@ same-length-5 : tie.Need-same-length-5
 same-length-5 c = search rules
 
 returns : tie.Need-returns
-returns c = command-tested _ _ _ _ _ _ c.before.before.before.before.before.before.before.before.before.before.before.before.before.well-formed-2.result c.before.before.before.before.before.before.before.before.before.before.before.before.before.well-formed-2.ensures c.before.before.before.before.before.before.before.command-on.ensures
+returns c = command_tested _ _ _ _ _ _ c.before.before.before.before.before.before.before.before.before.before.before.before.before.well-formed-2.result c.before.before.before.before.before.before.before.before.before.before.before.before.before.well-formed-2.ensures c.before.before.before.before.before.before.before.command-on.ensures
 
 pub command-spec : {M : Type 1} → statement M
 command-spec =

@@ -5,9 +5,9 @@ use mir.Facts.{to_z-of_z}
 use mathlib.Core.Path.{◌≡◌}
 use Prim.Native.Nat.{◌≤◌}
 use lib.ListN.{length}
-use Rattle.refusing.proofs.CommandLaws.{from-inside}
-use Rattle.refusing.proofs.MakingLaws.{part-is}
-use Rattle.commanding.proofs.EngineLaws.{command-refused, command-done}
+use Rattle.refusing.proofs.CommandLaws.{from_inside}
+use Rattle.refusing.proofs.MakingLaws.{part_is}
+use Rattle.commanding.proofs.EngineLaws.{command_refused, command_done}
 use borrow.Author.Rules.{rules}
 use Rattle.engine.proofs.command.command_on.Statement.{statement}
 use Rattle.engine.proofs.command.command_on.Tie as tie
@@ -28,7 +28,7 @@ same-length-4 : tie.Need-same-length-4
 same-length-4 c = search rules
 
 returns : tie.Need-returns
-returns c = let a = c.before.before.before.before.before.before.before.before.args in command-refused a.nodes.now a.links.now a.values.now a.cells.now a.log.now a.words.now a.formed c.before.refusal-on.ensures c.if1.true
+returns c = let a = c.before.before.before.before.before.before.before.before.args in command_refused a.nodes.now a.links.now a.values.now a.cells.now a.log.now a.words.now a.formed c.before.refusal-on.ensures c.if1.true
 
 cells-from-requires : tie.Need-cells-from-requires
 cells-from-requires c κs = search rules
@@ -37,14 +37,14 @@ command-of-requires : tie.Need-command-of-requires
 command-of-requires c κs = search rules
 
 mul-perform : tie.Need-overflow-mul-perform
-mul-perform c = let inside : c.before.before.before.before.before.before.cells-from.result ≤ length c.before.before.before.before.before.before.before.before.before.before.before.before.before.before.before.args.words.now = rw c.before.before.before.before.before.before.cells-from.ensures (from-inside c.before.before.before.before.before.before.before.before.before.before.before.before.before.before.before.args.words.now) in
+mul-perform c = let inside : c.before.before.before.before.before.before.cells-from.result ≤ length c.before.before.before.before.before.before.before.before.before.before.before.before.before.before.before.args.words.now = rw c.before.before.before.before.before.before.cells-from.ensures (from_inside c.before.before.before.before.before.before.before.before.before.before.before.before.before.before.before.args.words.now) in
     search rules
 
 sub-perform : tie.Need-overflow-sub-perform
-sub-perform c = rw c.before.before.before.before.before.before.cells-from.ensures (from-inside c.before.before.before.before.before.before.before.before.before.before.before.before.before.before.before.args.words.now)
+sub-perform c = rw c.before.before.before.before.before.before.cells-from.ensures (from_inside c.before.before.before.before.before.before.before.before.before.before.before.before.before.before.before.args.words.now)
 
 part-perform-start : tie.Need-slice-bounds-perform-start
-part-perform-start c = let inside : c.before.before.before.before.before.before.cells-from.result ≤ length c.before.before.before.before.before.before.before.before.before.before.before.before.before.before.before.args.words.now = rw c.before.before.before.before.before.before.cells-from.ensures (from-inside c.before.before.before.before.before.before.before.before.before.before.before.before.before.before.before.args.words.now) in
+part-perform-start c = let inside : c.before.before.before.before.before.before.cells-from.result ≤ length c.before.before.before.before.before.before.before.before.before.before.before.before.before.before.before.args.words.now = rw c.before.before.before.before.before.before.cells-from.ensures (from_inside c.before.before.before.before.before.before.before.before.before.before.before.before.before.before.before.args.words.now) in
     search rules
 
 part-perform-end : tie.Need-slice-bounds-perform-end
@@ -72,7 +72,7 @@ returns-2 : tie.Need-returns-2
 returns-2 c =
     let a = c.before.before.before.before.before.before.before.before.before.before.before.before.before.before.before.before.before.before.before.before.before.before.before.before.before.args in
     let v : to_z w64 (of_z w64 c.before.before.before.before.before.before.before.before.perform.result.value) ≡ c.before.before.before.before.before.before.before.before.perform.result.value = to_z-of_z (search rules) in
-    rw v (command-done a.nodes.now a.links.now a.values.now a.cells.now a.log.now a.words.now a.formed c.before.before.before.before.before.before.before.before.before.before.before.before.before.before.before.before.before.before.refusal-on.ensures c.before.before.before.before.before.before.before.before.before.before.before.before.before.before.before.before.before.if1.false (rw (← c.before.before.before.before.before.before.before.before.before.before.command-of.ensures, ← part-is c.before.before.before.before.before.before.before.before.before.before.before.before.before.before.before.before.before.before.before.before.before.before.before.before.before.args.words.now c.before.before.before.before.before.before.before.before.before.before.before.before.before.before.before.before.cells-from.ensures) c.before.before.before.before.before.before.before.before.perform.ensures))
+    rw v (command_done a.nodes.now a.links.now a.values.now a.cells.now a.log.now a.words.now a.formed c.before.before.before.before.before.before.before.before.before.before.before.before.before.before.before.before.before.before.refusal-on.ensures c.before.before.before.before.before.before.before.before.before.before.before.before.before.before.before.before.before.if1.false (rw (← c.before.before.before.before.before.before.before.before.before.before.command-of.ensures, ← part_is c.before.before.before.before.before.before.before.before.before.before.before.before.before.before.before.before.before.before.before.before.before.before.before.before.before.args.words.now c.before.before.before.before.before.before.before.before.before.before.before.before.before.before.before.before.cells-from.ensures) c.before.before.before.before.before.before.before.before.perform.ensures))
 
 pub command-on-spec : {M : Type 1} → statement M
 command-on-spec =

@@ -3,7 +3,7 @@ use mathlib.Core.Path.{◌≡◌}
 use mir.Syntax.{w64}
 use mir.Val.{to_z, of_z}
 use mir.Facts.{to_z-of_z}
-use Rattle.commanding.proofs.EngineLaws.{owner-is, owner-none, owner-low}
+use Rattle.commanding.proofs.EngineLaws.{owner_is_word, owner_none, owner_low}
 use borrow.Author.Rules.{rules}
 use Rattle.engine.proofs.perform.owner_word.Statement.{statement}
 use Rattle.engine.proofs.perform.owner_word.Tie as tie
@@ -20,18 +20,18 @@ enum_told c = search rules
 returns : tie.Need-returns
 returns c =
     let k : to_z w64 (of_z w64 c.before.before.before.args.k) ≡ c.before.before.before.args.k = to_z-of_z (search rules) in
-    owner-none c.before.before.before.args.k (rw k at c.before.before.natural.ensures) c.enum_told.given.1
+    owner_none c.before.before.before.args.k (rw k at c.before.before.natural.ensures) c.enum_told.given.1
 
 add-result : tie.Need-overflow-add-result
 add-result c =
     let k : to_z w64 (of_z w64 c.before.before.before.before.args.k) ≡ c.before.before.before.before.args.k = to_z-of_z (search rules) in
-    let low = owner-low c.before.before.before.before.args.k (rw k at c.before.before.before.natural.ensures) c.before.before.before.before.ranges.k _ c.before.n.given.1 in
+    let low = owner_low c.before.before.before.before.args.k (rw k at c.before.before.before.natural.ensures) c.before.before.before.before.ranges.k _ c.before.n.given.1 in
     search rules
 
 returns-2 : tie.Need-returns-2
 returns-2 c =
     let k : to_z w64 (of_z w64 c.before.before.before.before.args.k) ≡ c.before.before.before.before.args.k = to_z-of_z (search rules) in
-    owner-is c.before.before.before.before.args.k (rw k at c.before.before.before.natural.ensures) _ c.before.n.given.1
+    owner_is_word c.before.before.before.before.args.k (rw k at c.before.before.before.natural.ensures) _ c.before.n.given.1
 
 pub owner-word-spec : {M : Type 1} → statement M
 owner-word-spec =

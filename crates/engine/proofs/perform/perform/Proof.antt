@@ -4,9 +4,9 @@ use mir.Val.{to_z, of_z}
 use mir.Facts.{to_z-of_z}
 use mathlib.Core.Path.{◌≡◌, ap, ◌∙◌}
 use Rattle.values.specs.Values.{value}
-use Rattle.meaning.specs.Words.{nodeOf}
-use Rattle.commanding.specs.Perform.{ownerWord}
-use Rattle.commanding.proofs.EngineLaws.{signal-by, computed-by, effect-by, scope-by, set-by, add-by, read_by, dispose-by, start-by, end_by, unknown-by}
+use Rattle.meaning.specs.Words.{node_of}
+use Rattle.commanding.specs.Perform.{owner_word}
+use Rattle.commanding.proofs.EngineLaws.{signal_by, computed_by, effect_by, scope_by, set_by, add_by, read_by, dispose_by, start_by, end_by, unknown_by}
 use borrow.Author.Rules.{rules}
 use Rattle.engine.proofs.perform.perform.Statement.{statement}
 use Rattle.engine.proofs.perform.perform.Tie as tie
@@ -125,8 +125,8 @@ same-length-3 c = c.before.before.before.before.before.new-signal.auto.1.1.0
 returns : tie.Need-returns
 returns c =
     let k : to_z w64 (of_z w64 c.before.before.before.before.before.before.before.before.before.before.before.command.given.0.0) ≡ c.before.before.before.before.before.before.before.before.before.before.before.command.given.0.0 = to_z-of_z (search rules) in
-    let n : to_z w64 (of_z w64 c.number_word.result) ≡ c.number_word.result = to_z-of_z (search rules) in
-    signal-by _ _ _ _ c.before.before.before.before.before.before.before.before.before.before.before.command.given.1 (c.before.before.before.before.before.before.of.ensures ∙ ap value k) (c.before.before.before.before.before.new-signal.ensures c.before.before.before.before.before.before.before.before.before.before.before.before.before.before.before.args.links.now) (n ∙ c.number_word.ensures)
+    let n : to_z w64 (of_z w64 c.number_told.result) ≡ c.number_told.result = to_z-of_z (search rules) in
+    signal_by _ _ _ _ c.before.before.before.before.before.before.before.before.before.before.before.command.given.1 (c.before.before.before.before.before.before.of.ensures ∙ ap value k) (c.before.before.before.before.before.new-signal.ensures c.before.before.before.before.before.before.before.before.before.before.before.before.before.before.before.args.links.now) (n ∙ c.number_told.ensures)
 
 same-length-4 : tie.Need-same-length-4
 same-length-4 c = c.before.before.before.before.before.new-computed.auto.0
@@ -140,7 +140,7 @@ same-length-6 c = c.before.before.before.before.before.new-computed.auto.1.1.0
 returns-2 : tie.Need-returns-2
 returns-2 c =
     let n : to_z w64 (of_z w64 c.number-word2.result) ≡ c.number-word2.result = to_z-of_z (search rules) in
-    computed-by _ _ _ _ c.before.before.before.before.before.before.before.before.before.enum_told.given.1 (c.before.before.before.before.before.new-computed.ensures c.before.before.before.before.before.before.before.before.before.before.before.before.before.args.links.now) (n ∙ c.number-word2.ensures)
+    computed_by _ _ _ _ c.before.before.before.before.before.before.before.before.before.enum_told.given.1 (c.before.before.before.before.before.new-computed.ensures c.before.before.before.before.before.before.before.before.before.before.before.before.before.args.links.now) (n ∙ c.number-word2.ensures)
 
 same-length-7 : tie.Need-same-length-7
 same-length-7 c = c.before.before.before.before.before.before.before.before.new-effect.auto.0
@@ -161,7 +161,7 @@ returns-3 : tie.Need-returns-3
 returns-3 c =
     let o : to_z w64 (of_z w64 c.before.before.before.before.before.before.before.before.before.before.before.before.before.before.before.before.command2.given.0.0) ≡ c.before.before.before.before.before.before.before.before.before.before.before.before.before.before.before.before.command2.given.0.0 = to_z-of_z (search rules) in
     let n : to_z w64 (of_z w64 c.number-word3.result) ≡ c.number-word3.result = to_z-of_z (search rules) in
-    effect-by _ _ _ _ c.before.before.before.before.before.before.before.before.before.before.before.before.before.before.before.before.command2.given.1 (c.before.before.before.before.before.before.before.before.before.owner-word.ensures ∙ ap ownerWord o) c.before.before.before.before.before.before.before.before.new-effect.ensures (n ∙ c.number-word3.ensures)
+    effect_by _ _ _ _ c.before.before.before.before.before.before.before.before.before.before.before.before.before.before.before.before.command2.given.1 (c.before.before.before.before.before.before.before.before.before.owner_word_lem.ensures ∙ ap owner_word o) c.before.before.before.before.before.before.before.before.new-effect.ensures (n ∙ c.number-word3.ensures)
 
 same-length-12 : tie.Need-same-length-12
 same-length-12 c = c.before.before.before.before.before.before.before.new-scope.auto.0
@@ -179,7 +179,7 @@ returns-4 : tie.Need-returns-4
 returns-4 c =
     let o : to_z w64 (of_z w64 c.before.before.before.before.before.before.before.before.before.before.before.before.before.before.command3.given.0.0) ≡ c.before.before.before.before.before.before.before.before.before.before.before.before.before.before.command3.given.0.0 = to_z-of_z (search rules) in
     let n : to_z w64 (of_z w64 c.number-word4.result) ≡ c.number-word4.result = to_z-of_z (search rules) in
-    scope-by _ _ _ _ c.before.before.before.before.before.before.before.before.before.before.before.before.before.before.command3.given.1 (c.before.before.before.before.before.before.before.before.owner-word2.ensures ∙ ap ownerWord o) c.before.before.before.before.before.before.before.new-scope.ensures (n ∙ c.number-word4.ensures)
+    scope_by _ _ _ _ c.before.before.before.before.before.before.before.before.before.before.before.before.before.before.command3.given.1 (c.before.before.before.before.before.before.before.before.owner-word2.ensures ∙ ap owner_word o) c.before.before.before.before.before.before.before.new-scope.ensures (n ∙ c.number-word4.ensures)
 
 same-length-16 : tie.Need-same-length-16
 same-length-16 c = c.before.before.before.before.before.before.set.auto.0
@@ -200,7 +200,7 @@ returns-5 : tie.Need-returns-5
 returns-5 c =
     let n : to_z w64 (of_z w64 c.before.before.before.before.before.before.before.before.before.before.before.before.before.before.before.command4.given.0.0) ≡ c.before.before.before.before.before.before.before.before.before.before.before.before.before.before.before.command4.given.0.0 = to_z-of_z (search rules) in
     let k : to_z w64 (of_z w64 c.before.before.before.before.before.before.before.before.before.before.before.before.before.before.before.command4.given.0.1.0) ≡ c.before.before.before.before.before.before.before.before.before.before.before.before.before.before.before.command4.given.0.1.0 = to_z-of_z (search rules) in
-    set-by _ _ _ _ c.before.before.before.before.before.before.before.before.before.before.before.before.before.before.before.command4.given.1 (c.before.before.before.before.before.before.before.before.node_of.ensures ∙ ap nodeOf n) (c.before.before.before.before.before.before.before.of2.ensures ∙ ap value k) c.before.before.before.before.before.before.set.ensures
+    set_by _ _ _ _ c.before.before.before.before.before.before.before.before.before.before.before.before.before.before.before.command4.given.1 (c.before.before.before.before.before.before.before.before.node_of.ensures ∙ ap node_of n) (c.before.before.before.before.before.before.before.of2.ensures ∙ ap value k) c.before.before.before.before.before.before.set.ensures
 
 same-length-21 : tie.Need-same-length-21
 same-length-21 c = c.before.before.before.before.before.before.add.auto.0
@@ -221,7 +221,7 @@ returns-6 : tie.Need-returns-6
 returns-6 c =
     let n : to_z w64 (of_z w64 c.before.before.before.before.before.before.before.before.before.before.before.before.before.before.before.command5.given.0.0) ≡ c.before.before.before.before.before.before.before.before.before.before.before.before.before.before.before.command5.given.0.0 = to_z-of_z (search rules) in
     let k : to_z w64 (of_z w64 c.before.before.before.before.before.before.before.before.before.before.before.before.before.before.before.command5.given.0.1.0) ≡ c.before.before.before.before.before.before.before.before.before.before.before.before.before.before.before.command5.given.0.1.0 = to_z-of_z (search rules) in
-    add-by _ _ _ _ c.before.before.before.before.before.before.before.before.before.before.before.before.before.before.before.command5.given.1 (c.before.before.before.before.before.before.before.before.node-of2.ensures ∙ ap nodeOf n) (c.before.before.before.before.before.before.before.of3.ensures ∙ ap value k) c.before.before.before.before.before.before.add.ensures
+    add_by _ _ _ _ c.before.before.before.before.before.before.before.before.before.before.before.before.before.before.before.command5.given.1 (c.before.before.before.before.before.before.before.before.node-of2.ensures ∙ ap node_of n) (c.before.before.before.before.before.before.before.of3.ensures ∙ ap value k) c.before.before.before.before.before.before.add.ensures
 
 same-length-26 : tie.Need-same-length-26
 same-length-26 c = c.before.before.before.before.before.before.read.auto.0
@@ -239,7 +239,7 @@ returns-7 : tie.Need-returns-7
 returns-7 c =
     let n : to_z w64 (of_z w64 c.before.before.before.before.before.before.before.before.before.before.before.before.before.command6.given.0.0) ≡ c.before.before.before.before.before.before.before.before.before.before.before.before.before.command6.given.0.0 = to_z-of_z (search rules) in
     let v : to_z w64 (of_z w64 c.before.before.before.before.before.before.read.result.word) ≡ c.before.before.before.before.before.before.read.result.word = to_z-of_z (search rules) in
-    read_by _ _ _ _ c.before.before.before.before.before.before.before.before.before.before.before.before.before.command6.given.1 (c.before.before.before.before.before.before.before.node-of3.ensures ∙ ap nodeOf n) c.before.before.before.before.before.before.read.ensures v
+    read_by _ _ _ _ c.before.before.before.before.before.before.before.before.before.before.before.before.before.command6.given.1 (c.before.before.before.before.before.before.before.node-of3.ensures ∙ ap node_of n) c.before.before.before.before.before.before.read.ensures v
 
 same-length-30 : tie.Need-same-length-30
 same-length-30 c = c.before.before.before.before.dispose.auto.0
@@ -250,14 +250,14 @@ same-length-31 c = c.before.before.before.before.dispose.auto.1.0
 returns-8 : tie.Need-returns-8
 returns-8 c =
     let n : to_z w64 (of_z w64 c.before.before.before.before.before.before.before.before.before.command7.given.0.0) ≡ c.before.before.before.before.before.before.before.before.before.command7.given.0.0 = to_z-of_z (search rules) in
-    dispose-by _ _ _ _ c.before.before.before.before.before.before.before.before.before.command7.given.1 (c.before.before.before.before.before.node-of4.ensures ∙ ap nodeOf n) c.before.before.before.before.dispose.ensures
+    dispose_by _ _ _ _ c.before.before.before.before.before.before.before.before.before.command7.given.1 (c.before.before.before.before.before.node-of4.ensures ∙ ap node_of n) c.before.before.before.before.dispose.ensures
 
 same-length-32 : tie.Need-same-length-32
 same-length-32 c = c.before.before.start-batch.auto.0
 
 returns-9 : tie.Need-returns-9
 returns-9 c =
-    start-by _ _ _ _ c.before.before.before.before.enum-told2.given.1 c.before.before.start-batch.ensures
+    start_by _ _ _ _ c.before.before.before.before.enum-told2.given.1 c.before.before.start-batch.ensures
 
 same-length-33 : tie.Need-same-length-33
 same-length-33 c = c.before.before.before.before.before.before.end-batch.auto.0
@@ -280,7 +280,7 @@ returns-10 c =
 
 returns-11 : tie.Need-returns-11
 returns-11 c =
-    unknown-by _ _ _ _ c.enum-told4.given.1
+    unknown_by _ _ _ _ c.enum-told4.given.1
 
 pub perform-spec : {M : Type 1} → statement M
 perform-spec =

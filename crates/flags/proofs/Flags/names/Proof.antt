@@ -1,5 +1,5 @@
 -- `flags::Flags::names` meets its contract. Assumes nothing.
-use Rattle.flags.proofs.FlagLaws.{tells, names-all}
+use Rattle.flags.proofs.FlagLaws.{tells, names_all}
 use borrow.Author.Rules.{rules}
 use Rattle.flags.proofs.Flags.names.Statement.{statement}
 use Rattle.flags.proofs.Flags.names.Tie as tie
@@ -11,7 +11,7 @@ returns c =
     let f = e.before.before in
     let g = f.before.before in
     let h = g.before.before in
-    names-all _
+    names_all _
     (tells 0 _ h.before.mask.ensures h.is-nonzero.ensures)
     (tells 1 _ g.before.mask2.ensures g.is-nonzero2.ensures)
     (tells 2 _ f.before.mask3.ensures f.is-nonzero3.ensures)

@@ -1,5 +1,5 @@
 -- `formula::cells::arity` meets its contract. Assumes nothing.
-use Rattle.trees.specs.Cells.{arityOf}
+use Rattle.trees.specs.Cells.{arity_of}
 use borrow.Author.Rules.{rules}
 use Rattle.formula.proofs.cells.arity.Statement.{statement}
 use Rattle.formula.proofs.cells.arity.Tie as tie
@@ -20,23 +20,23 @@ enum-told-5 : tie.Need-enum-told-5
 enum-told-5 c = search rules
 
 returns : tie.Need-returns
-unfolding arityOf
+unfolding arity_of
 returns c = rw c.enum_told.given.1
 
 returns-2 : tie.Need-returns-2
-unfolding arityOf
+unfolding arity_of
 returns-2 c = rw c.enum-told2.given.1
 
 returns-3 : tie.Need-returns-3
-unfolding arityOf
+unfolding arity_of
 returns-3 c = rw c.enum-told3.given.1
 
 returns-4 : tie.Need-returns-4
-unfolding arityOf
+unfolding arity_of
 returns-4 c = rw c.enum-told4.given.1
 
 returns-5 : tie.Need-returns-5
-unfolding arityOf
+unfolding arity_of
 returns-5 c = rw c.enum-told5.given.1
 
 pub arity-spec : {M : Type 1} → statement M

@@ -1,6 +1,6 @@
 -- `formula::cells::cell_of` meets its contract. Assumes nothing.
 use mir.Facts.{to_z-of_z}
-use Rattle.trees.proofs.CellLaws.{code-none, code_is, code-past}
+use Rattle.trees.proofs.CellLaws.{code_none, code_is, code_past}
 use Rattle.trees.specs.Cells.{codes}
 use mathlib.Core.Path.{refl, ◌∙◌}
 use borrow.Author.Rules.{rules}
@@ -17,7 +17,7 @@ enum_told : tie.Need-enum-told
 enum_told c = search rules
 
 returns : tie.Need-returns
-returns c = code-none _ (rw (to_z-of_z c.before.before.before.ranges.code) at c.before.before.natural.ensures) _ c.enum_told.given.1
+returns c = code_none _ (rw (to_z-of_z c.before.before.before.ranges.code) at c.before.before.natural.ensures) _ c.enum_told.given.1
 
 returns-2 : tie.Need-returns-2
 unfolding codes
@@ -73,7 +73,7 @@ unfolding codes
 returns-9 c = (rw (to_z-of_z c.before.before.before.before.before.before.before.before.before.before.before.before.before.ranges.operand) at c.bare6.ensures) ∙ code_is _ (rw (to_z-of_z c.before.before.before.before.before.before.before.before.before.before.before.before.before.ranges.code) at c.before.before.before.before.before.before.before.before.before.before.before.before.natural.ensures) _ _ 8 c.before.before.before.before.before.before.before.before.before.before.c.given.1 c.before.if8.true
 
 returns-10 : tie.Need-returns-10
-returns-10 c = code-past _ _ c.before.before.before.before.before.before.before.if1.false c.before.before.before.before.before.before.if2.false c.before.before.before.before.before.if3.false c.before.before.before.before.if4.false c.before.before.before.if5.false c.before.before.if6.false c.before.if7.false c.if8.false ∙ code_is _ (rw (to_z-of_z c.before.before.before.before.before.before.before.before.before.before.before.before.ranges.code) at c.before.before.before.before.before.before.before.before.before.before.before.natural.ensures) _ _ _ c.before.before.before.before.before.before.before.before.before.c.given.1 refl
+returns-10 c = code_past _ _ c.before.before.before.before.before.before.before.if1.false c.before.before.before.before.before.before.if2.false c.before.before.before.before.before.if3.false c.before.before.before.before.if4.false c.before.before.before.if5.false c.before.before.if6.false c.before.if7.false c.if8.false ∙ code_is _ (rw (to_z-of_z c.before.before.before.before.before.before.before.before.before.before.before.before.ranges.code) at c.before.before.before.before.before.before.before.before.before.before.before.natural.ensures) _ _ _ c.before.before.before.before.before.before.before.before.before.c.given.1 refl
 
 pub cell-of-spec : {M : Type 1} → statement M
 cell-of-spec =

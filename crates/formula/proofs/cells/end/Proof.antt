@@ -2,8 +2,8 @@
 use borrow.Author.Rules.{rules}
 use native.Mathlib.Omega.{arith}
 use mathlib.Core.Path.{◌≡◌, refl, sym, ap, ◌∙◌}
-use Rattle.trees.proofs.ScanLaws.{arity-inside, count-done, count-stops, count-turns}
-use Rattle.trees.specs.Cells.{arityOf, settled, end_of}
+use Rattle.trees.proofs.ScanLaws.{arity_inside, count_done, count_stops, count_turns}
+use Rattle.trees.specs.Cells.{arity_of, settled, end_of}
 use Prim.Native.Nat.{◌+◌, ◌*◌, ◌-◌, ◌/◌, ◌≤◌}
 use lib.ListN.{length}
 use Rattle.formula.proofs.cells.end.Statement.{statement}
@@ -32,25 +32,25 @@ enum_told : tie.Need-enum-told invariant-loop decreases-loop
 enum_told c = search rules
 
 returns : tie.Need-returns invariant-loop decreases-loop
-returns c = sym (count-stops _ _ _ _ c.before.before.before.before.loop-test.true (sym (c.before.before.arity.ensures ∙ ap arityOf c.before.before.before.Cell-at.ensures) ∙ c.enum_told.given.1)) ∙ c.before.before.before.before.before.loop.invariant.2
+returns c = sym (count_stops _ _ _ _ c.before.before.before.before.loop-test.true (sym (c.before.before.arity.ensures ∙ ap arity_of c.before.before.before.Cell-at.ensures) ∙ c.enum_told.given.1)) ∙ c.before.before.before.before.before.loop.invariant.2
 
 sub-owed : tie.Need-overflow-sub-owed invariant-loop decreases-loop
 sub-owed c = search rules
 
 add-owed : tie.Need-overflow-add-owed invariant-loop decreases-loop
-add-owed c = omega (arith, arity-inside _ _ _ (sym (c.before.before.before.arity.ensures ∙ ap arityOf c.before.before.before.before.Cell-at.ensures) ∙ c.before.n.given.1))
+add-owed c = omega (arith, arity_inside _ _ _ (sym (c.before.before.before.arity.ensures ∙ ap arity_of c.before.before.before.before.Cell-at.ensures) ∙ c.before.n.given.1))
 
 add_at : tie.Need-overflow-add-at invariant-loop decreases-loop
-add_at c = omega (arith, arity-inside _ _ _ (sym (c.before.before.before.arity.ensures ∙ ap arityOf c.before.before.before.before.Cell-at.ensures) ∙ c.before.n.given.1))
+add_at c = omega (arith, arity_inside _ _ _ (sym (c.before.before.before.arity.ensures ∙ ap arity_of c.before.before.before.before.Cell-at.ensures) ∙ c.before.n.given.1))
 
 loop-less : tie.Need-loop-smaller invariant-loop decreases-loop
-loop-less c = omega (arith, arity-inside _ _ _ (sym (c.before.before.before.arity.ensures ∙ ap arityOf c.before.before.before.before.Cell-at.ensures) ∙ c.before.n.given.1))
+loop-less c = omega (arith, arity_inside _ _ _ (sym (c.before.before.before.arity.ensures ∙ ap arity_of c.before.before.before.before.Cell-at.ensures) ∙ c.before.n.given.1))
 
 loop-again : tie.Need-loop-preserved invariant-loop decreases-loop
-loop-again c = (omega arith, omega (arith, arity-inside _ _ _ (sym (c.before.before.before.arity.ensures ∙ ap arityOf c.before.before.before.before.Cell-at.ensures) ∙ c.before.n.given.1)), sym (count-turns _ _ _ _ c.before.before.before.before.before.loop-test.true (sym (c.before.before.before.arity.ensures ∙ ap arityOf c.before.before.before.before.Cell-at.ensures) ∙ c.before.n.given.1)) ∙ c.before.before.before.before.before.before.loop.invariant.2)
+loop-again c = (omega arith, omega (arith, arity_inside _ _ _ (sym (c.before.before.before.arity.ensures ∙ ap arity_of c.before.before.before.before.Cell-at.ensures) ∙ c.before.n.given.1)), sym (count_turns _ _ _ _ c.before.before.before.before.before.loop-test.true (sym (c.before.before.before.arity.ensures ∙ ap arity_of c.before.before.before.before.Cell-at.ensures) ∙ c.before.n.given.1)) ∙ c.before.before.before.before.before.before.loop.invariant.2)
 
 returns-2 : tie.Need-returns-2 invariant-loop decreases-loop
-returns-2 c = sym (count-done _ _ _ _ c.loop-test.false) ∙ c.before.loop.invariant.2
+returns-2 c = sym (count_done _ _ _ _ c.loop-test.false) ∙ c.before.loop.invariant.2
 
 pub end-spec : {M : Type 1} → statement M
 end-spec =

@@ -1,9 +1,9 @@
 -- The cycle of calls `formula::legal::one` meets its contracts. Assumes nothing.
-use Rattle.trees.proofs.LegalLaws.{rest, takes-inside, one_none, one-bad, one-rest, rest_end, rest-bad, rest_more}
+use Rattle.trees.proofs.LegalLaws.{rest, takes_inside, one_none, one_bad, one_rest, rest_end, rest_bad, rest_more}
 use mathlib.Core.Path.{◌≡◌, refl, sym, ap, ◌∙◌}
 use native.Mathlib.Omega.{arith}
 use Prim.Native.Nat.{◌-◌}
-use Rattle.trees.specs.Legal.{takesIn}
+use Rattle.trees.specs.Legal.{takes_in}
 use Prim.Native.Nat.{ℕ, ◌<◌}
 use borrow.Author.Rules.{rules}
 use borrow.Fn.Kinds.{In}
@@ -50,10 +50,10 @@ one-enum-told : (t : ℕ) → one-lts.Need-enum-told (one_of t) (one_at t) one.P
 one-enum-told t c = search rules
 
 one-returns-2 : (t : ℕ) → one-lts.Need-returns-2 (one_of t) (one_at t) one.Post one-Inv-loop one-μ-loop
-one-returns-2 t c = one-bad _ _ _ _ c.before.before.before.before.if1.false c.before.before.before.Cell-at.ensures c.before.before.takes.ensures c.enum_told.given.1
+one-returns-2 t c = one_bad _ _ _ _ c.before.before.before.before.if1.false c.before.before.before.Cell-at.ensures c.before.before.takes.ensures c.enum_told.given.1
 
 one-add-at : (t : ℕ) → one-lts.Need-overflow-add-at (one_of t) (one_at t) one.Post one-Inv-loop one-μ-loop
-one-add-at t c = omega (arith, takes-inside c.before.before.before.before.before.before.before.args.nodes.now c.before.before.before.before.before.before.before.args.cells.now c.before.before.before.before.before.before.before.args.i _ (sym (c.before.before.before.takes.ensures ∙ ap (takesIn c.before.before.before.before.before.before.before.args.nodes.now) c.before.before.before.before.Cell-at.ensures) ∙ c.before.n.given.1))
+one-add-at t c = omega (arith, takes_inside c.before.before.before.before.before.before.before.args.nodes.now c.before.before.before.before.before.before.before.args.cells.now c.before.before.before.before.before.before.before.args.i _ (sym (c.before.before.before.takes.ensures ∙ ap (takes_in c.before.before.before.before.before.before.before.args.nodes.now) c.before.before.before.before.Cell-at.ensures) ∙ c.before.n.given.1))
 
 one-loop-holds : (t : ℕ) → one-lts.Need-loop-init (one_of t) (one_at t) one.Post one-Inv-loop one-μ-loop
 one-loop-holds t c = refl
@@ -71,7 +71,7 @@ one-enum-told-2 : (t : ℕ) → one-lts.Need-enum-told-2 (one_of t) (one_at t) o
 one-enum-told-2 t c = search rules
 
 one-returns-3 : (t : ℕ) → one-lts.Need-returns-3 (one_of t) (one_at t) one.Post one-Inv-loop one-μ-loop
-one-returns-3 t c = sym (one-rest _ _ _ _ _ c.before.before.before.before.before.before.before.before.before.before.if1.false c.before.before.before.before.before.before.before.before.before.Cell-at.ensures c.before.before.before.before.before.before.before.before.takes.ensures c.before.before.before.before.before.before.n.given.1 ∙ c.before.before.before.before.loop.invariant ∙ rest-bad _ _ _ _ _ c.before.before.before.loop-test.true c.before.before.one.ensures c.enum-told2.given.1)
+one-returns-3 t c = sym (one_rest _ _ _ _ _ c.before.before.before.before.before.before.before.before.before.before.if1.false c.before.before.before.before.before.before.before.before.before.Cell-at.ensures c.before.before.before.before.before.before.before.before.takes.ensures c.before.before.before.before.before.before.n.given.1 ∙ c.before.before.before.before.loop.invariant ∙ rest_bad _ _ _ _ _ c.before.before.before.loop-test.true c.before.before.one.ensures c.enum-told2.given.1)
 
 one-sub-left : (t : ℕ) → one-lts.Need-overflow-sub-left (one_of t) (one_at t) one.Post one-Inv-loop one-μ-loop
 one-sub-left t c = search rules
@@ -83,7 +83,7 @@ one-loop-again : (t : ℕ) → one-lts.Need-loop-preserved (one_of t) (one_at t)
 one-loop-again t c = c.before.before.before.before.before.loop.invariant ∙ rest_more _ _ _ _ _ _ c.before.before.before.before.loop-test.true c.before.before.before.one.ensures c.before.j.given.1
 
 one-returns-4 : (t : ℕ) → one-lts.Need-returns-4 (one_of t) (one_at t) one.Post one-Inv-loop one-μ-loop
-one-returns-4 t c = sym (one-rest _ _ _ _ _ c.before.before.before.before.before.before.before.if1.false c.before.before.before.before.before.before.Cell-at.ensures c.before.before.before.before.before.takes.ensures c.before.before.before.n.given.1 ∙ c.before.loop.invariant ∙ rest_end _ _ _ _ _ c.loop-test.false)
+one-returns-4 t c = sym (one_rest _ _ _ _ _ c.before.before.before.before.before.before.before.if1.false c.before.before.before.before.before.before.Cell-at.ensures c.before.before.before.before.before.takes.ensures c.before.before.before.n.given.1 ∙ c.before.loop.invariant ∙ rest_end _ _ _ _ _ c.loop-test.false)
 
 pub +one-spec : {M : Type 1} → statement M
 +one-spec = close μ-one λ t. one-lts.spec (one_of t)

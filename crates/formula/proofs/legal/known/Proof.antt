@@ -1,5 +1,5 @@
 -- `formula::legal::known` meets its contract. Assumes nothing.
-use Rattle.trees.proofs.LegalLaws.{known-none, known_some}
+use Rattle.trees.proofs.LegalLaws.{known_none, known_some}
 use mathlib.Core.Path.{◌∙◌}
 use borrow.Author.Rules.{rules}
 use Rattle.formula.proofs.legal.known.Statement.{statement}
@@ -15,7 +15,7 @@ enum_told : tie.Need-enum-told
 enum_told c = search rules
 
 returns : tie.Need-returns
-returns c = known-none _ _ c.before.before.name.ensures c.enum_told.given.1
+returns c = known_none _ _ c.before.before.name.ensures c.enum_told.given.1
 
 readable-requires : tie.Need-readable-requires
 readable-requires c κs = search rules

@@ -1,5 +1,5 @@
 -- `host::calls::simmer_command` meets its contract. Assumes nothing.
-use Rattle.hosting.proofs.Replies.{not-called, call-done}
+use Rattle.hosting.proofs.Replies.{not_called, call_done}
 use mathlib.Core.Path.{◌≡◌}
 use mir.Syntax.{w64}
 use mir.Val.{to_z, of_z}
@@ -9,7 +9,7 @@ use Rattle.host.proofs.calls.simmer_command.Statement.{statement}
 use Rattle.host.proofs.calls.simmer_command.Tie as tie
 
 returns : tie.Need-returns
-returns c = not-called _ _ _ _ _ _ _ c.if1.true
+returns c = not_called _ _ _ _ _ _ _ c.if1.true
 
 command-requires : tie.Need-command-requires
 command-requires c κs = search rules
@@ -38,7 +38,7 @@ same-length-6 c = search rules
 returns-2 : tie.Need-returns-2
 returns-2 c =
     let value : to_z w64 (of_z w64 c.before.before.before.before.before.before.before.before.before.before.before.command.result.value) ≡ c.before.before.before.before.before.before.before.before.before.before.before.command.result.value = to_z-of_z (search rules) in
-    rw (c.before.put-reply.ensures, value) (call-done _ _ _ _ _ _ _ _ c.before.before.before.before.before.before.before.before.before.before.before.before.before.before.before.before.before.if1.false c.before.before.before.before.before.before.before.before.before.before.before.command.ensures)
+    rw (c.before.put-reply.ensures, value) (call_done _ _ _ _ _ _ _ _ c.before.before.before.before.before.before.before.before.before.before.before.before.before.before.before.before.before.if1.false c.before.before.before.before.before.before.before.before.before.before.before.command.ensures)
 
 pub simmer-command-spec : {M : Type 1} → statement M
 simmer-command-spec =

@@ -1,5 +1,5 @@
 -- `host::calls::simmer_commands` meets its contract. Assumes nothing.
-use Rattle.hosting.proofs.ManyReplies.{not_done, calls-done}
+use Rattle.hosting.proofs.ManyReplies.{not_done, calls_done}
 use borrow.Author.Rules.{rules}
 use Rattle.host.proofs.calls.simmer_commands.Statement.{statement}
 use Rattle.host.proofs.calls.simmer_commands.Tie as tie
@@ -38,7 +38,7 @@ same-length-7 : tie.Need-same-length-7
 same-length-7 c = search rules
 
 returns-2 : tie.Need-returns-2
-returns-2 c = rw (c.before.put-many.ensures, c.before.before.before.why-number.ensures) (calls-done _ _ _ _ _ _ _ _ _ c.before.before.before.before.before.before.before.before.before.before.before.before.before.before.before.before.before.before.before.if1.false c.before.before.before.before.before.before.before.before.before.before.before.before.series.ensures)
+returns-2 c = rw (c.before.put-many.ensures, c.before.before.before.why-number.ensures) (calls_done _ _ _ _ _ _ _ _ _ c.before.before.before.before.before.before.before.before.before.before.before.before.before.before.before.before.before.before.before.if1.false c.before.before.before.before.before.before.before.before.before.before.before.before.series.ensures)
 
 pub simmer-commands-spec : {M : Type 1} → statement M
 simmer-commands-spec =

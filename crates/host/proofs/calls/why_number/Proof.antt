@@ -1,6 +1,6 @@
 -- `host::calls::why_number` meets its contract. Assumes nothing.
 use mathlib.Core.Path.{sym, ap}
-use Rattle.hosting.specs.Many.{whyNumber}
+use Rattle.hosting.specs.Many.{why_number}
 use borrow.Author.Rules.{rules}
 use Rattle.host.proofs.calls.why_number.Statement.{statement}
 use Rattle.host.proofs.calls.why_number.Tie as tie
@@ -18,20 +18,20 @@ enum-told-4 : tie.Need-enum-told-4
 enum-told-4 c = search rules
 
 returns : tie.Need-returns
-unfolding whyNumber
-returns c = sym (ap whyNumber c.enum_told.given.1)
+unfolding why_number
+returns c = sym (ap why_number c.enum_told.given.1)
 
 returns-2 : tie.Need-returns-2
-unfolding whyNumber
-returns-2 c = sym (ap whyNumber c.enum-told2.given.1)
+unfolding why_number
+returns-2 c = sym (ap why_number c.enum-told2.given.1)
 
 returns-3 : tie.Need-returns-3
-unfolding whyNumber
-returns-3 c = sym (ap whyNumber c.enum-told3.given.1)
+unfolding why_number
+returns-3 c = sym (ap why_number c.enum-told3.given.1)
 
 returns-4 : tie.Need-returns-4
-unfolding whyNumber
-returns-4 c = sym (ap whyNumber c.enum-told4.given.1)
+unfolding why_number
+returns-4 c = sym (ap why_number c.enum-told4.given.1)
 
 pub why-number-spec : {M : Type 1} → statement M
 why-number-spec =

@@ -4,17 +4,17 @@ use native.Mathlib.Nat.{mul-le-mul, lt_of_le_of_lt}
 use Prim.Native.Nat.{◌+◌, ◌*◌, ◌≤◌}
 use borrow.Author.Tests.{eq-eqb, ne_eqb, le-leb, lt-leb}
 use borrow.Author.Rules.{rules}
-use Rattle.counting.specs.Counts.{withinMost}
-use Rattle.hosting.specs.Sizes.{wordsFor}
+use Rattle.counting.specs.Counts.{within_most}
+use Rattle.hosting.specs.Sizes.{words_for}
 use Rattle.host.proofs.sizes.words_for.Statement.{statement}
 use Rattle.host.proofs.sizes.words_for.Tie as tie
 
 returns : tie.Need-returns
-unfolding wordsFor withinMost
+unfolding words_for within_most
 returns c = rw (eq-eqb _ _ c.if1.true)
 
 returns-2 : tie.Need-returns-2
-unfolding wordsFor withinMost
+unfolding words_for within_most
 returns-2 c = rw (ne_eqb _ _ c.before.if1.false, lt-leb _ _ c.if2.true)
 
 add-result : tie.Need-overflow-add-result
@@ -28,7 +28,7 @@ mul-result c =
     record { fits = lt_of_le_of_lt all (omega arith) }
 
 returns-3 : tie.Need-returns-3
-unfolding wordsFor withinMost
+unfolding words_for within_most
 returns-3 c = rw (ne_eqb _ _ c.before.if1.false, le-leb _ _ c.if2.false)
 
 pub words-for-spec : {M : Type 1} → statement M

@@ -1,5 +1,5 @@
 -- `joined::depends::depends_at` meets its contract. Assumes nothing.
-use Rattle.resting.specs.Depends.{dependsAt}
+use Rattle.resting.specs.Depends.{depends_at}
 use borrow.Author.Rules.{rules}
 use Rattle.joined.proofs.depends.depends_at.Statement.{statement}
 use Rattle.joined.proofs.depends.depends_at.Tie as tie
@@ -14,7 +14,7 @@ depends-on-requires : tie.Need-depends-on-requires
 depends-on-requires c κs = search rules
 
 returns : tie.Need-returns
-unfolding dependsAt
+unfolding depends_at
 returns c = rw (
   ← c.before.before.get.ensures,
   ← c.before.slot-room.ensures,

@@ -1,17 +1,17 @@
 -- `joined::depends::depends_on` meets its contract. Assumes nothing.
-use Rattle.joined.proofs.WalkTurns.{deps, deps-end, deps-bad, deps-more}
-use Rattle.lists.proofs.EachLaws.{along-out}
-use Rattle.resting.specs.Depends.{mayDepend, dependsOn}
+use Rattle.joined.proofs.WalkTurns.{deps, deps_end, deps_bad, deps_more}
+use Rattle.lists.proofs.EachLaws.{along_out}
+use Rattle.resting.specs.Depends.{may_depend, depends_on}
 use mathlib.Core.Path.{◌≡◌, refl, sym, ◌∙◌}
 use Prim.Native.Nat.{◌-◌}
 use native.Mathlib.Omega.{arith}
-use borrow.Author.Tests.{not-true, not-false}
+use borrow.Author.Tests.{not_true_lem, not_false_lem}
 use borrow.Author.Rules.{rules}
 use Rattle.joined.proofs.depends.depends_on.Statement.{statement}
 use Rattle.joined.proofs.depends.depends_on.Tie as tie
 
 abbrev invariant-loop : tie.invariant-loop
-invariant-loop nodes links n budget w left₀ at₀ left at = deps links (mayDepend nodes n) left₀ at₀ ≡ deps links (mayDepend nodes n) left at
+invariant-loop nodes links n budget w left₀ at₀ left at = deps links (may_depend nodes n) left₀ at₀ ≡ deps links (may_depend nodes n) left at
 
 abbrev decreases-loop : tie.decreases-loop
 decreases-loop nodes links n budget w left₀ at₀ left at = left
@@ -29,13 +29,13 @@ enum_told : tie.Need-enum-told invariant-loop decreases-loop
 enum_told c = search rules
 
 returns : tie.Need-returns invariant-loop decreases-loop
-unfolding dependsOn
+unfolding depends_on
 returns c =
     let enum_told = c.enum_told in
     let opened = c.before.before.«open» in
     let turn = c.before.before.before.before.loop in
     let a = c.before.before.before.before.before.before.before.args in
-    sym (turn.invariant ∙ deps-end _ (mayDepend a.nodes.now a.n) turn.left turn.at opened.ensures enum_told.given.1)
+    sym (turn.invariant ∙ deps_end _ (may_depend a.nodes.now a.n) turn.left turn.at opened.ensures enum_told.given.1)
 
 get-requires : tie.Need-get-requires invariant-loop decreases-loop
 get-requires c κs = search rules
@@ -44,7 +44,7 @@ may-depend-requires : tie.Need-may-depend-requires invariant-loop decreases-loop
 may-depend-requires c κs = search rules
 
 returns-2 : tie.Need-returns-2 invariant-loop decreases-loop
-unfolding dependsOn
+unfolding depends_on
 returns-2 c =
     let if1 = c.if1 in
     let may-depend = c.before.may-depend in
@@ -54,7 +54,7 @@ returns-2 c =
     let loop-test = c.before.before.before.before.before.before.before.loop-test in
     let turn = c.before.before.before.before.before.before.before.before.loop in
     let a = c.before.before.before.before.before.before.before.before.before.before.before.args in
-    sym (turn.invariant ∙ deps-bad _ (mayDepend a.nodes.now a.n) turn.left turn.at _ _ may-depend.result loop-test.true opened.ensures x.given.1 get.ensures may-depend.ensures (not-true _ if1.true))
+    sym (turn.invariant ∙ deps_bad _ (may_depend a.nodes.now a.n) turn.left turn.at _ _ may-depend.result loop-test.true opened.ensures x.given.1 get.ensures may-depend.ensures (not_true_lem _ if1.true))
 
 get-requires-2 : tie.Need-get-requires-2 invariant-loop decreases-loop
 get-requires-2 c κs = search rules
@@ -76,14 +76,14 @@ loop-again c =
     let loop-test = c.before.before.before.before.before.before.before.before.loop-test in
     let turn = c.before.before.before.before.before.before.before.before.before.loop in
     let a = c.before.before.before.before.before.before.before.before.before.before.before.before.args in
-    turn.invariant ∙ deps-more _ (mayDepend a.nodes.now a.n) turn.left turn.at _ _ _ may-depend.result loop-test.true opened.ensures x.given.1 get.ensures may-depend.ensures (not-false _ if1.false) get2.ensures
+    turn.invariant ∙ deps_more _ (may_depend a.nodes.now a.n) turn.left turn.at _ _ _ may-depend.result loop-test.true opened.ensures x.given.1 get.ensures may-depend.ensures (not_false_lem _ if1.false) get2.ensures
 
 returns-3 : tie.Need-returns-3 invariant-loop decreases-loop
-unfolding dependsOn
+unfolding depends_on
 returns-3 c =
     let loop-test = c.loop-test in
     let turn = c.before.loop in
-    sym (turn.invariant ∙ along-out _ _ turn.left turn.at loop-test.false)
+    sym (turn.invariant ∙ along_out _ _ turn.left turn.at loop-test.false)
 
 pub depends-on-spec : {M : Type 1} → statement M
 depends-on-spec =

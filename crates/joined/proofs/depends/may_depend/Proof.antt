@@ -1,6 +1,6 @@
 -- `joined::depends::may_depend` meets its contract. Assumes nothing.
-use Rattle.resting.specs.Depends.{mayDepend}
-use borrow.Author.Tests.{not-false, not-true}
+use Rattle.resting.specs.Depends.{may_depend}
+use borrow.Author.Tests.{not_false_lem, not_true_lem}
 use borrow.Author.Rules.{rules}
 use Rattle.joined.proofs.depends.may_depend.Statement.{statement}
 use Rattle.joined.proofs.depends.may_depend.Tie as tie
@@ -18,54 +18,54 @@ reads-kind-requires : tie.Need-reads-kind-requires
 reads-kind-requires c κs = search rules
 
 returns : tie.Need-returns
-unfolding mayDepend
+unfolding may_depend
 returns c = rw (
   ← c.before.before.before.before.before.get.ensures,
   ← c.before.before.before.before.get2.ensures,
   ← c.before.before.before.readable.ensures,
   c.before.before.if1.true,
-  ← c.before.reads-kind.ensures,
-  not-true c.before.reads-kind.result c.if2.true,
+  ← c.before.reads_kind_lem.ensures,
+  not_true_lem c.before.reads_kind_lem.result c.if2.true,
 )
 
 returns-2 : tie.Need-returns-2
-unfolding mayDepend
+unfolding may_depend
 returns-2 c = rw (
   ← c.before.before.before.before.before.get.ensures,
   ← c.before.before.before.before.get2.ensures,
   ← c.before.before.before.readable.ensures,
   c.before.before.if1.true,
-  ← c.before.reads-kind.ensures,
-  not-false c.before.reads-kind.result c.if2.false,
+  ← c.before.reads_kind_lem.ensures,
+  not_false_lem c.before.reads_kind_lem.result c.if2.false,
 )
 
 owns-kind-requires : tie.Need-owns-kind-requires
 owns-kind-requires c κs = search rules
 
 returns-3 : tie.Need-returns-3
-unfolding mayDepend
+unfolding may_depend
 returns-3 c = rw (
   ← c.before.before.before.before.before.get.ensures,
   ← c.before.before.before.before.get2.ensures,
   ← c.before.before.before.readable.ensures,
   c.before.before.if1.false,
   ← c.before.owns-kind.ensures,
-  not-true c.before.owns-kind.result c.if3.true,
+  not_true_lem c.before.owns-kind.result c.if3.true,
 )
 
 owner-is-requires : tie.Need-owner-is-requires
 owner-is-requires c κs = search rules
 
 returns-4 : tie.Need-returns-4
-unfolding mayDepend
+unfolding may_depend
 returns-4 c = rw (
   ← c.before.before.before.before.before.before.get.ensures,
   ← c.before.before.before.before.before.get2.ensures,
   ← c.before.before.before.before.readable.ensures,
   c.before.before.before.if1.false,
   ← c.before.before.owns-kind.ensures,
-  not-false c.before.before.owns-kind.result c.before.if3.false,
-  ← c.owner-is.ensures,
+  not_false_lem c.before.before.owns-kind.result c.before.if3.false,
+  ← c.owner_is_word.ensures,
 )
 
 pub may-depend-spec : {M : Type 1} → statement M

@@ -1,5 +1,5 @@
 -- `joined::depends::owned_at` meets its contract. Assumes nothing.
-use Rattle.resting.specs.Depends.{ownedAt}
+use Rattle.resting.specs.Depends.{owned_at}
 use borrow.Author.Tests.{eq-eqb, ne_eqb}
 use borrow.Author.Rules.{rules}
 use Rattle.joined.proofs.depends.owned_at.Statement.{statement}
@@ -15,7 +15,7 @@ readable-requires : tie.Need-readable-requires
 readable-requires c κs = search rules
 
 returns : tie.Need-returns
-unfolding ownedAt
+unfolding owned_at
 returns c = rw (
   ← c.before.before.before.get.ensures,
   ← c.before.before.get2.ensures,
@@ -30,7 +30,7 @@ owned-on-requires : tie.Need-owned-on-requires
 owned-on-requires c κs = search rules
 
 returns-2 : tie.Need-returns-2
-unfolding ownedAt
+unfolding owned_at
 returns-2 c = rw (
   ← c.before.before.before.before.before.before.get.ensures,
   ← c.before.before.before.before.before.get2.ensures,
@@ -42,7 +42,7 @@ returns-2 c = rw (
 )
 
 returns-3 : tie.Need-returns-3
-unfolding ownedAt
+unfolding owned_at
 returns-3 c = rw (
   ← c.before.before.before.before.before.before.get.ensures,
   ← c.before.before.before.before.before.get2.ensures,
@@ -57,7 +57,7 @@ get-requires-4 : tie.Need-get-requires-4
 get-requires-4 c κs = search rules
 
 returns-4 : tie.Need-returns-4
-unfolding ownedAt
+unfolding owned_at
 returns-4 c = rw (
   ← c.before.before.before.before.before.before.before.get.ensures,
   ← c.before.before.before.before.before.before.get2.ensures,

@@ -1,5 +1,5 @@
 -- `joined::depends::owned_on` meets its contract. Assumes nothing.
-use Rattle.joined.proofs.TurnLaws.{at_slot, at-nothing, owned-not, owned-bare, owned-more, owned-once}
+use Rattle.joined.proofs.TurnLaws.{at_slot, at_nothing, owned_not, owned_bare, owned_more, owned_once}
 use mathlib.Core.Path.{sym, ◌∙◌}
 use Prim.Native.Nat.{◌-◌}
 use borrow.Author.Rules.{rules}
@@ -19,7 +19,7 @@ returns : tie.Need-returns
 returns c =
     let enum_told = c.enum_told in
     let opened = c.before.before.«open» in
-    owned-not _ _ _ (at-nothing _ opened.ensures enum_told.given.1)
+    owned_not _ _ _ (at_nothing _ opened.ensures enum_told.given.1)
 
 open-requires-2 : tie.Need-open-requires-2
 open-requires-2 c κs = search rules
@@ -36,7 +36,7 @@ returns-2 c =
     let open2 = c.before.before.open2 in
     let o = c.before.before.before.before.o in
     let opened = c.before.before.before.before.before.before.«open» in
-    owned-bare _ _ _ _ (at_slot _ _ opened.ensures o.given.1) (at-nothing _ open2.ensures enum-told2.given.1)
+    owned_bare _ _ _ _ (at_slot _ _ opened.ensures o.given.1) (at_nothing _ open2.ensures enum-told2.given.1)
 
 get-requires : tie.Need-get-requires
 get-requires c κs = search rules
@@ -49,7 +49,7 @@ returns-3 c =
     let open2 = c.before.before.before.before.before.open2 in
     let o = c.before.before.before.before.before.before.before.o in
     let opened = c.before.before.before.before.before.before.before.before.before.«open» in
-    owned-more _ _ _ _ _ (at_slot _ _ opened.ensures o.given.1) (at_slot _ _ open2.ensures x.given.1) (λ q. if1.true (get.ensures ∙ q))
+    owned_more _ _ _ _ _ (at_slot _ _ opened.ensures o.given.1) (at_slot _ _ open2.ensures x.given.1) (λ q. if1.true (get.ensures ∙ q))
 
 get-requires-2 : tie.Need-get-requires-2
 get-requires-2 c κs = search rules
@@ -63,7 +63,7 @@ returns-4 c =
     let open2 = c.before.before.before.before.before.before.open2 in
     let o = c.before.before.before.before.before.before.before.before.o in
     let opened = c.before.before.before.before.before.before.before.before.before.before.«open» in
-    owned-once _ _ _ _ _ _ (at_slot _ _ opened.ensures o.given.1) (at_slot _ _ open2.ensures x.given.1) (sym get.ensures ∙ if1.false) get2.ensures
+    owned_once _ _ _ _ _ _ (at_slot _ _ opened.ensures o.given.1) (at_slot _ _ open2.ensures x.given.1) (sym get.ensures ∙ if1.false) get2.ensures
 
 pub owned-on-spec : {M : Type 1} → statement M
 owned-on-spec =

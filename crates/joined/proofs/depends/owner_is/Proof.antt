@@ -1,5 +1,5 @@
 -- `joined::depends::owner_is` meets its contract. Assumes nothing.
-use Rattle.joined.proofs.TurnLaws.{at_slot, at-nothing, owner-none, owner-some}
+use Rattle.joined.proofs.TurnLaws.{at_slot, at_nothing, owner_none, owner_some}
 use Prim.Native.Nat.{◌-◌}
 use borrow.Author.Rules.{rules}
 use Rattle.joined.proofs.depends.owner_is.Statement.{statement}
@@ -15,10 +15,10 @@ enum_told : tie.Need-enum-told
 enum_told c = search rules
 
 returns : tie.Need-returns
-returns c = owner-none _ _ (at-nothing _ c.before.before.«open».ensures c.enum_told.given.1)
+returns c = owner_none _ _ (at_nothing _ c.before.before.«open».ensures c.enum_told.given.1)
 
 returns-2 : tie.Need-returns-2
-returns-2 c = owner-some _ _ _ (at_slot _ _ c.before.before.before.«open».ensures c.before.o.given.1)
+returns-2 c = owner_some _ _ _ (at_slot _ _ c.before.before.before.«open».ensures c.before.o.given.1)
 
 pub owner-is-spec : {M : Type 1} → statement M
 owner-is-spec = tie.close (tie.spec open-requires enum-known-o enum_told returns returns-2)

@@ -1,32 +1,32 @@
 -- `joined::flagged::computed_flags` meets its contract. Assumes nothing.
-use Rattle.resting.specs.Flagged.{computedFlags}
+use Rattle.resting.specs.Flagged.{computed_flags}
 use borrow.Author.Tests.{eq-eqb, ne_eqb}
 use Rattle.joined.proofs.flagged.computed_flags.Statement.{statement}
 use Rattle.joined.proofs.flagged.computed_flags.Tie as tie
 
 returns : tie.Need-returns
-unfolding computedFlags
+unfolding computed_flags
 returns c = rw (
   eq-eqb _ _ c.before.if1.true,
   ne_eqb _ _ c.if2.true,
 )
 
 returns-2 : tie.Need-returns-2
-unfolding computedFlags
+unfolding computed_flags
 returns-2 c = rw (
   eq-eqb _ _ c.before.if1.true,
   eq-eqb _ _ c.if2.false,
 )
 
 returns-3 : tie.Need-returns-3
-unfolding computedFlags
+unfolding computed_flags
 returns-3 c = rw (
   ne_eqb _ _ c.before.if1.false,
   eq-eqb _ _ c.if3.true,
 )
 
 returns-4 : tie.Need-returns-4
-unfolding computedFlags
+unfolding computed_flags
 returns-4 c = rw (
   ne_eqb _ _ c.before.before.if1.false,
   ne_eqb _ _ c.before.if3.false,
@@ -34,7 +34,7 @@ returns-4 c = rw (
 )
 
 returns-5 : tie.Need-returns-5
-unfolding computedFlags
+unfolding computed_flags
 returns-5 c = rw (
   ne_eqb _ _ c.before.before.before.if1.false,
   ne_eqb _ _ c.before.before.if3.false,
@@ -43,7 +43,7 @@ returns-5 c = rw (
 )
 
 returns-6 : tie.Need-returns-6
-unfolding computedFlags
+unfolding computed_flags
 returns-6 c = rw (
   ne_eqb _ _ c.before.before.before.before.if1.false,
   ne_eqb _ _ c.before.before.before.if3.false,
@@ -53,7 +53,7 @@ returns-6 c = rw (
 )
 
 returns-7 : tie.Need-returns-7
-unfolding computedFlags
+unfolding computed_flags
 returns-7 c = rw (
   ne_eqb _ _ c.before.before.before.before.if1.false,
   ne_eqb _ _ c.before.before.before.if3.false,

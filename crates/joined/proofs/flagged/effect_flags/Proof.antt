@@ -1,23 +1,23 @@
 -- `joined::flagged::effect_flags` meets its contract. Assumes nothing.
-use Rattle.resting.specs.Flagged.{effectFlags}
+use Rattle.resting.specs.Flagged.{effect_flags}
 use borrow.Author.Tests.{eq-eqb, ne_eqb}
 use Rattle.joined.proofs.flagged.effect_flags.Statement.{statement}
 use Rattle.joined.proofs.flagged.effect_flags.Tie as tie
 
 returns : tie.Need-returns
-unfolding effectFlags
+unfolding effect_flags
 returns c = rw
     (eq-eqb _ _ c.if1.true)
 
 returns-2 : tie.Need-returns-2
-unfolding effectFlags
+unfolding effect_flags
 returns-2 c = rw (
   ne_eqb _ _ c.before.if1.false,
   eq-eqb _ _ c.if2.true,
 )
 
 returns-3 : tie.Need-returns-3
-unfolding effectFlags
+unfolding effect_flags
 returns-3 c = rw (
   ne_eqb _ _ c.before.before.if1.false,
   ne_eqb _ _ c.before.if2.false,
@@ -25,7 +25,7 @@ returns-3 c = rw (
 )
 
 returns-4 : tie.Need-returns-4
-unfolding effectFlags
+unfolding effect_flags
 returns-4 c = rw (
   ne_eqb _ _ c.before.before.before.if1.false,
   ne_eqb _ _ c.before.before.if2.false,
@@ -34,7 +34,7 @@ returns-4 c = rw (
 )
 
 returns-5 : tie.Need-returns-5
-unfolding effectFlags
+unfolding effect_flags
 returns-5 c = rw (
   ne_eqb _ _ c.before.before.before.if1.false,
   ne_eqb _ _ c.before.before.if2.false,

@@ -1,5 +1,5 @@
 -- `joined::flagged::flags_on` meets its contract. Assumes nothing.
-use Rattle.resting.specs.Flagged.{flagsOn}
+use Rattle.resting.specs.Flagged.{flags_on}
 use borrow.Author.Tests.{eq-eqb, ne_eqb}
 use borrow.Author.Rules.{rules}
 use Rattle.joined.proofs.flagged.flags_on.Statement.{statement}
@@ -9,51 +9,51 @@ signal-flags-requires : tie.Need-signal-flags-requires
 signal-flags-requires c κs = search rules
 
 returns : tie.Need-returns
-unfolding flagsOn
+unfolding flags_on
 returns c = rw (
   eq-eqb _ _ c.before.if1.true,
-  ← c.signal-flags.ensures,
+  ← c.signal_flags_lem.ensures,
 )
 
 computed-flags-requires : tie.Need-computed-flags-requires
 computed-flags-requires c κs = search rules
 
 returns-2 : tie.Need-returns-2
-unfolding flagsOn
+unfolding flags_on
 returns-2 c = rw (
   ne_eqb _ _ c.before.before.if1.false,
   eq-eqb _ _ c.before.if2.true,
-  ← c.computed-flags.ensures,
+  ← c.computed_flags_lem.ensures,
 )
 
 effect-flags-requires : tie.Need-effect-flags-requires
 effect-flags-requires c κs = search rules
 
 returns-3 : tie.Need-returns-3
-unfolding flagsOn
+unfolding flags_on
 returns-3 c = rw (
   ne_eqb _ _ c.before.before.before.before.if1.false,
   ne_eqb _ _ c.before.before.before.if2.false,
   eq-eqb _ _ c.before.before.if3.true,
   eq-eqb _ _ c.before.if4.true,
-  ← c.effect-flags.ensures,
+  ← c.effect_flags_lem.ensures,
 )
 
 gone-flags-requires : tie.Need-gone-flags-requires
 gone-flags-requires c κs = search rules
 
 returns-4 : tie.Need-returns-4
-unfolding flagsOn
+unfolding flags_on
 returns-4 c = rw (
   ne_eqb _ _ c.before.before.before.before.if1.false,
   ne_eqb _ _ c.before.before.before.if2.false,
   eq-eqb _ _ c.before.before.if3.true,
   ne_eqb _ _ c.before.if4.false,
-  ← c.gone-flags.ensures,
+  ← c.gone_flags_lem.ensures,
 )
 
 returns-5 : tie.Need-returns-5
-unfolding flagsOn
+unfolding flags_on
 returns-5 c = rw (
   ne_eqb _ _ c.before.before.before.if1.false,
   ne_eqb _ _ c.before.before.if2.false,
@@ -62,7 +62,7 @@ returns-5 c = rw (
 )
 
 returns-6 : tie.Need-returns-6
-unfolding flagsOn
+unfolding flags_on
 returns-6 c = rw (
   ne_eqb _ _ c.before.before.before.if1.false,
   ne_eqb _ _ c.before.before.if2.false,

@@ -1,16 +1,16 @@
 -- `joined::flagged::gone_flags` meets its contract. Assumes nothing.
-use Rattle.resting.specs.Flagged.{goneFlags}
+use Rattle.resting.specs.Flagged.{gone_flags}
 use borrow.Author.Tests.{eq-eqb, ne_eqb}
 use Rattle.joined.proofs.flagged.gone_flags.Statement.{statement}
 use Rattle.joined.proofs.flagged.gone_flags.Tie as tie
 
 returns : tie.Need-returns
-unfolding goneFlags
+unfolding gone_flags
 returns c = rw
     (eq-eqb _ _ c.if1.true)
 
 returns-2 : tie.Need-returns-2
-unfolding goneFlags
+unfolding gone_flags
 returns-2 c = rw
     (ne_eqb _ _ c.if1.false)
 

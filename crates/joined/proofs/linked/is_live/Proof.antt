@@ -1,5 +1,5 @@
 -- `joined::linked::is_live` meets its contract. Assumes nothing.
-use Rattle.resting.specs.Linked.{isLive}
+use Rattle.resting.specs.Linked.{is_live_slot}
 use borrow.Author.Rules.{rules}
 use Rattle.joined.proofs.linked.is_live.Statement.{statement}
 use Rattle.joined.proofs.linked.is_live.Tie as tie
@@ -8,7 +8,7 @@ get-requires : tie.Need-get-requires
 get-requires c κs = search rules
 
 returns : tie.Need-returns
-unfolding isLive
+unfolding is_live_slot
 returns c = rw
     (← c.get.ensures)
 

@@ -1,5 +1,5 @@
 -- `joined::linked::linked` meets its contract. Assumes nothing.
-use Rattle.resting.specs.Linked.{linkedIn}
+use Rattle.resting.specs.Linked.{linked_in}
 use borrow.Author.Tests.{eq-eqb, ne_eqb}
 use borrow.Author.Rules.{rules}
 use Rattle.joined.proofs.linked.linked.Statement.{statement}
@@ -24,7 +24,7 @@ enum_told : tie.Need-enum-told
 enum_told c = search rules
 
 returns : tie.Need-returns
-unfolding linkedIn
+unfolding linked_in
 returns c = rw (
   ← c.before.before.before.before.before.slot-room.ensures,
   ← c.before.before.before.before.counted.ensures,
@@ -43,7 +43,7 @@ enum-told-2 : tie.Need-enum-told-2
 enum-told-2 c = search rules
 
 returns-2 : tie.Need-returns-2
-unfolding linkedIn
+unfolding linked_in
 returns-2 c = rw (
   ← c.before.before.before.before.before.before.before.before.before.slot-room.ensures,
   ← c.before.before.before.before.before.before.before.before.counted.ensures,
@@ -55,7 +55,7 @@ returns-2 c = rw (
 )
 
 returns-3 : tie.Need-returns-3
-unfolding linkedIn
+unfolding linked_in
 returns-3 c = rw (
   ← c.before.before.before.before.before.before.before.before.before.before.before.slot-room.ensures,
   ← c.before.before.before.before.before.before.before.before.before.before.counted.ensures,
@@ -77,7 +77,7 @@ enum-told-3 : tie.Need-enum-told-3
 enum-told-3 c = search rules
 
 returns-4 : tie.Need-returns-4
-unfolding linkedIn
+unfolding linked_in
 returns-4 c = rw (
   ← c.before.before.before.before.before.before.before.before.before.before.before.before.before.before.slot-room.ensures,
   ← c.before.before.before.before.before.before.before.before.before.before.before.before.before.counted.ensures,
@@ -92,7 +92,7 @@ returns-4 c = rw (
 )
 
 returns-5 : tie.Need-returns-5
-unfolding linkedIn
+unfolding linked_in
 returns-5 c = rw (
   ← c.before.before.before.before.before.before.before.before.before.before.before.before.before.before.before.slot-room.ensures,
   ← c.before.before.before.before.before.before.before.before.before.before.before.before.before.before.counted.ensures,

@@ -1,5 +1,5 @@
 -- `joined::linked::walks` meets its contract. Assumes nothing.
-use Rattle.joined.proofs.WalkTurns.{walks-end, walks-bad, walks_more}
+use Rattle.joined.proofs.WalkTurns.{walks_end, walks_bad, walks_more}
 use Rattle.resting.specs.Linked.{walks}
 use mathlib.Core.Path.{◌≡◌, refl, sym, ◌∙◌}
 use Prim.Native.Nat.{◌-◌}
@@ -43,7 +43,7 @@ returns c =
     let get = c.before.before.before.before.get in
     let loop-test = c.before.before.before.before.before.loop-test in
     let turn = c.before.before.before.before.before.before.loop in
-    sym (turn.invariant ∙ walks-bad _ _ _ _ _ loop-test.true (rw (← get.ensures, ← get2.ensures) (sym walk.ensures ∙ enum_told.given.1)))
+    sym (turn.invariant ∙ walks_bad _ _ _ _ _ loop-test.true (rw (← get.ensures, ← get2.ensures) (sym walk.ensures ∙ enum_told.given.1)))
 
 loop-less : tie.Need-loop-smaller invariant-loop decreases-loop
 loop-less c = omega arith
@@ -62,7 +62,7 @@ returns-2 : tie.Need-returns-2 invariant-loop decreases-loop
 returns-2 c =
     let loop-test = c.loop-test in
     let turn = c.before.loop in
-    sym (turn.invariant ∙ walks-end _ _ _ _ _ loop-test.false)
+    sym (turn.invariant ∙ walks_end _ _ _ _ _ loop-test.false)
 
 pub walks-spec : {M : Type 1} → statement M
 walks-spec =

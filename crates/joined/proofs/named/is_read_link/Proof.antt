@@ -1,5 +1,5 @@
 -- `joined::named::is_read_link` meets its contract. Assumes nothing.
-use Rattle.resting.specs.Named.{isReadLink}
+use Rattle.resting.specs.Named.{is_read_link}
 use borrow.Author.Rules.{rules}
 use Rattle.joined.proofs.named.is_read_link.Statement.{statement}
 use Rattle.joined.proofs.named.is_read_link.Tie as tie
@@ -11,7 +11,7 @@ readable-requires : tie.Need-readable-requires
 readable-requires c κs = search rules
 
 returns : tie.Need-returns
-unfolding isReadLink
+unfolding is_read_link
 returns c = rw (
   ← c.before.before.get.ensures,
   ← c.before.readable.ensures,
@@ -19,7 +19,7 @@ returns c = rw (
 )
 
 returns-2 : tie.Need-returns-2
-unfolding isReadLink
+unfolding is_read_link
 returns-2 c = rw (
   ← c.before.before.get.ensures,
   ← c.before.readable.ensures,

@@ -14,7 +14,7 @@ all-named-requires c κs = search rules
 returns : tie.Need-returns
 unfolding named_in blank
 returns c = rw
-    (← c.before.all_named.ensures)
+    (← c.before.all_named-written.ensures)
 
 pub named-spec : {M : Type 1} → statement M
 named-spec = tie.close (tie.spec slice-aggregate-all-named all-named-requires returns)

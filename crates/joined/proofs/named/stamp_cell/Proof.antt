@@ -1,5 +1,5 @@
 -- `joined::named::stamp_cell` meets its contract. Assumes nothing.
-use Rattle.joined.proofs.StampTurns.{cell-none, cell-some}
+use Rattle.joined.proofs.StampTurns.{cell_none, cell_some}
 use Rattle.trees.specs.Cells.{name_of}
 use mathlib.Core.Path.{ap, ◌∙◌}
 use Prim.Native.Nat.{◌-◌}
@@ -20,7 +20,7 @@ enum_told : tie.Need-enum-told
 enum_told c = search rules
 
 returns : tie.Need-returns
-returns c = cell-none _ _ _ _ (c.before.before.name.ensures ∙ ap name_of c.before.before.before.Cell-at.ensures) c.enum_told.given.1
+returns c = cell_none _ _ _ _ (c.before.before.name.ensures ∙ ap name_of c.before.before.before.Cell-at.ensures) c.enum_told.given.1
 
 put-requires : tie.Need-put-requires
 put-requires c κs = search rules
@@ -29,7 +29,7 @@ same_length : tie.Need-same-length
 same_length c = search rules
 
 returns-2 : tie.Need-returns-2
-returns-2 c = cell-some _ _ _ _ _ _ (c.before.before.before.before.before.before.before.name.ensures ∙ ap name_of c.before.before.before.before.before.before.before.before.Cell-at.ensures) c.before.before.before.before.before.m.given.1 c.before.before.put.ensures
+returns-2 c = cell_some _ _ _ _ _ _ (c.before.before.before.before.before.before.before.name.ensures ∙ ap name_of c.before.before.before.before.before.before.before.before.Cell-at.ensures) c.before.before.before.before.before.m.given.1 c.before.before.put.ensures
 
 pub stamp-cell-spec : {M : Type 1} → statement M
 stamp-cell-spec =

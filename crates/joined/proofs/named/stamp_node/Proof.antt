@@ -1,6 +1,6 @@
 -- `joined::named::stamp_node` meets its contract. Assumes nothing.
-use Rattle.joined.proofs.StampTurns.{node-stamped, node-plain}
-use Rattle.resting.specs.Depends.{readsKind}
+use Rattle.joined.proofs.StampTurns.{node_stamped, node_plain}
+use Rattle.resting.specs.Depends.{reads_kind}
 use mathlib.Core.Path.{sym, ap, ◌∙◌}
 use Prim.Native.Nat.{◌-◌}
 use borrow.Author.Rules.{rules}
@@ -29,18 +29,18 @@ returns : tie.Need-returns
 returns c =
     let stamp-cells = c.before.before.stamp-cells in
     let if1 = c.before.before.before.before.if1 in
-    let reads-kind = c.before.before.before.before.before.reads-kind in
+    let reads_kind_lem = c.before.before.before.before.before.reads_kind_lem in
     let get3 = c.before.before.before.before.before.before.get3 in
     let get2 = c.before.before.before.before.before.before.before.get2 in
     let get = c.before.before.before.before.before.before.before.before.get in
-    node-stamped _ _ _ _ _ _ _ _ get.ensures get2.ensures (sym (ap readsKind get3.ensures) ∙ sym reads-kind.ensures ∙ if1.true) stamp-cells.ensures
+    node_stamped _ _ _ _ _ _ _ _ get.ensures get2.ensures (sym (ap reads_kind get3.ensures) ∙ sym reads_kind_lem.ensures ∙ if1.true) stamp-cells.ensures
 
 returns-2 : tie.Need-returns-2
 returns-2 c =
     let if1 = c.if1 in
-    let reads-kind = c.before.reads-kind in
+    let reads_kind_lem = c.before.reads_kind_lem in
     let get3 = c.before.before.get3 in
-    node-plain _ _ _ _ _ (sym (ap readsKind get3.ensures) ∙ sym reads-kind.ensures ∙ if1.false)
+    node_plain _ _ _ _ _ (sym (ap reads_kind get3.ensures) ∙ sym reads_kind_lem.ensures ∙ if1.false)
 
 pub stamp-node-spec : {M : Type 1} → statement M
 stamp-node-spec =

@@ -1,7 +1,7 @@
 -- `joined::queued::count_due` meets its contract. Assumes nothing.
 use Rattle.lists.specs.Sum.{count}
 use Rattle.lists.proofs.SumLaws.{bit_le}
-use Rattle.lists.proofs.EachLaws.{count-step, count-end}
+use Rattle.lists.proofs.EachLaws.{count_step, count_end_lem}
 use Rattle.resting.specs.Queued.{due}
 use mathlib.Core.Path.{◌≡◌}
 use Prim.Native.Nat.{◌+◌, ◌-◌, ◌≤◌}
@@ -35,10 +35,10 @@ loop-less : tie.Need-loop-smaller invariant-loop decreases-loop
 loop-less c = omega arith
 
 loop-again : tie.Need-loop-preserved invariant-loop decreases-loop
-loop-again c = (rw c.due.ensures (count-step (due c.before.before.before.before.before.args.nodes.now) c.before.before.loop.n c.before.before.loop.c _ c.before.loop-test.true c.before.before.loop.invariant.0), omega (arith, c.due.ensures, bit_le (due c.before.before.before.before.before.args.nodes.now (c.before.before.loop.n - 1))))
+loop-again c = (rw c.due.ensures (count_step (due c.before.before.before.before.before.args.nodes.now) c.before.before.loop.n c.before.before.loop.c _ c.before.loop-test.true c.before.before.loop.invariant.0), omega (arith, c.due.ensures, bit_le (due c.before.before.before.before.before.args.nodes.now (c.before.before.loop.n - 1))))
 
 returns : tie.Need-returns invariant-loop decreases-loop
-returns c = rw (← c.before.before.counted.ensures) (count-end (due c.before.before.before.before.args.nodes.now) c.before.loop.n c.before.loop.c _ c.loop-test.false c.before.loop.invariant.0)
+returns c = rw (← c.before.before.counted.ensures) (count_end_lem (due c.before.before.before.before.args.nodes.now) c.before.loop.n c.before.loop.c _ c.loop-test.false c.before.loop.invariant.0)
 
 pub count-due-spec : {M : Type 1} → statement M
 count-due-spec =

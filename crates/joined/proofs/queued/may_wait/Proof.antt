@@ -1,5 +1,5 @@
 -- `joined::queued::may_wait` meets its contract. Assumes nothing.
-use Rattle.resting.specs.Queued.{mayWait}
+use Rattle.resting.specs.Queued.{may_wait}
 use borrow.Author.Tests.{eq-eqb, le-ltb, lt-ltb, ne_eqb}
 use borrow.Author.Rules.{rules}
 use Rattle.joined.proofs.queued.may_wait.Statement.{statement}
@@ -9,7 +9,7 @@ counted-requires : tie.Need-counted-requires
 counted-requires c κs = search rules
 
 returns : tie.Need-returns
-unfolding mayWait
+unfolding may_wait
 returns c = rw (
   ← c.before.counted.ensures,
   le-ltb _ _ c.if1.true,
@@ -19,7 +19,7 @@ get-requires : tie.Need-get-requires
 get-requires c κs = search rules
 
 returns-2 : tie.Need-returns-2
-unfolding mayWait
+unfolding may_wait
 returns-2 c = rw (
   ← c.before.before.before.counted.ensures,
   lt-ltb _ _ c.before.before.if1.false,
@@ -37,7 +37,7 @@ waits-on-requires : tie.Need-waits-on-requires
 waits-on-requires c κs = search rules
 
 returns-3 : tie.Need-returns-3
-unfolding mayWait
+unfolding may_wait
 returns-3 c = rw (
   ← c.before.before.before.before.before.before.counted.ensures,
   lt-ltb _ _ c.before.before.before.before.before.if1.false,

@@ -1,7 +1,7 @@
 -- `joined::queued::queued` meets its contract. Assumes nothing.
-use Rattle.resting.specs.Queued.{queuedIn}
+use Rattle.resting.specs.Queued.{queued_in}
 use Rattle.resting.specs.Blank.{blank}
-use borrow.Author.Tests.{le-leb, lt-leb, not-false, not-true}
+use borrow.Author.Tests.{le-leb, lt-leb, not_false_lem, not_true_lem}
 use borrow.Author.Rules.{rules}
 use Rattle.joined.proofs.queued.queued.Statement.{statement}
 use Rattle.joined.proofs.queued.queued.Tie as tie
@@ -13,7 +13,7 @@ at-requires-2 : tie.Need-at-requires-2
 at-requires-2 c κs = search rules
 
 returns : tie.Need-returns
-unfolding queuedIn blank
+unfolding queued_in blank
 returns c = rw (
   ← c.before.before.at.ensures,
   ← c.before.at2.ensures,
@@ -24,26 +24,26 @@ idle-requires : tie.Need-idle-requires
 idle-requires c κs = search rules
 
 returns-2 : tie.Need-returns-2
-unfolding queuedIn blank
+unfolding queued_in blank
 returns-2 c = rw (
   ← c.before.before.before.before.at.ensures,
   ← c.before.before.before.at2.ensures,
   le-leb _ _ c.before.before.if1.false,
   ← c.before.idle.ensures,
-  not-true c.before.idle.result c.if2.true,
+  not_true_lem c.before.idle.result c.if2.true,
 )
 
 counted-requires : tie.Need-counted-requires
 counted-requires c κs = search rules
 
 returns-3 : tie.Need-returns-3
-unfolding queuedIn blank
+unfolding queued_in blank
 returns-3 c = rw (
   ← c.before.before.before.before.before.before.at.ensures,
   ← c.before.before.before.before.before.at2.ensures,
   le-leb _ _ c.before.before.before.before.if1.false,
   ← c.before.before.before.idle.ensures,
-  not-false c.before.before.before.idle.result c.before.before.if2.false,
+  not_false_lem c.before.before.before.idle.result c.before.before.if2.false,
   ← c.before.counted.ensures,
   lt-leb _ _ c.if3.true,
 )
@@ -64,7 +64,7 @@ enum_told : tie.Need-enum-told
 enum_told c = search rules
 
 returns-4 : tie.Need-returns-4
-unfolding queuedIn blank
+unfolding queued_in blank
 returns-4 c = rw (
   ← c.before.before.before.before.before.count-due.ensures,
   ← c.before.before.before.scan.ensures,
@@ -73,13 +73,13 @@ returns-4 c = rw (
   ← c.before.before.before.before.before.before.before.before.before.before.before.at2.ensures,
   le-leb _ _ c.before.before.before.before.before.before.before.before.before.before.if1.false,
   ← c.before.before.before.before.before.before.before.before.before.idle.ensures,
-  not-false c.before.before.before.before.before.before.before.before.before.idle.result c.before.before.before.before.before.before.before.before.if2.false,
+  not_false_lem c.before.before.before.before.before.before.before.before.before.idle.result c.before.before.before.before.before.before.before.before.if2.false,
   ← c.before.before.before.before.before.before.before.counted.ensures,
   le-leb _ _ c.before.before.before.before.before.before.if3.false,
 )
 
 returns-5 : tie.Need-returns-5
-unfolding queuedIn blank
+unfolding queued_in blank
 returns-5 c = rw (
   ← c.before.before.before.before.before.before.count-due.ensures,
   ← c.before.before.before.before.scan.ensures,
@@ -88,7 +88,7 @@ returns-5 c = rw (
   ← c.before.before.before.before.before.before.before.before.before.before.before.before.at2.ensures,
   le-leb _ _ c.before.before.before.before.before.before.before.before.before.before.before.if1.false,
   ← c.before.before.before.before.before.before.before.before.before.before.idle.ensures,
-  not-false c.before.before.before.before.before.before.before.before.before.before.idle.result c.before.before.before.before.before.before.before.before.before.if2.false,
+  not_false_lem c.before.before.before.before.before.before.before.before.before.before.idle.result c.before.before.before.before.before.before.before.before.before.if2.false,
   ← c.before.before.before.before.before.before.before.before.counted.ensures,
   le-leb _ _ c.before.before.before.before.before.before.before.if3.false,
 )

@@ -1,11 +1,11 @@
 -- `links::free::is_live` meets its contract. Assumes nothing.
-use Rattle.linking.specs.Free.{isLive}
+use Rattle.linking.specs.Free.{is_live_slot}
 use borrow.Author.Rules.{rules}
 use Rattle.links.proofs.free.is_live.Statement.{statement}
 use Rattle.links.proofs.free.is_live.Tie as tie
 
 returns : tie.Need-returns
-unfolding isLive
+unfolding is_live_slot
 returns c = rw
     (← c.get.ensures)
 

@@ -4,23 +4,23 @@ use mathlib.Core.Logic.{⊎_elim}
 use Prim.Native.Nat.{◌-◌, ◌≤◌}
 use native.Mathlib.Omega.{arith}
 use borrow.Author.Rules.{rules}
-use Rattle.linking.specs.Free.{liveBelow, live}
-use Rattle.linking.proofs.FreeLaws.{below-le, below_more}
+use Rattle.linking.specs.Free.{live_below, live}
+use Rattle.linking.proofs.FreeLaws.{below_le, below_more}
 use Rattle.links.proofs.free.live.Statement.{statement}
 use Rattle.links.proofs.free.live.Tie as tie
 
 abbrev invariant-loop : tie.invariant-loop
-invariant-loop links rows n₀ count₀ n count = (count ≡ liveBelow links n) × (n ≤ rows)
+invariant-loop links rows n₀ count₀ n count = (count ≡ live_below links n) × (n ≤ rows)
 
 abbrev decreases-loop : tie.decreases-loop
 decreases-loop links rows n₀ count₀ n count = rows - n
 
 loop-holds : tie.Need-loop-init invariant-loop decreases-loop
-unfolding liveBelow
+unfolding live_below
 loop-holds c = (refl, omega arith)
 
 add-count : tie.Need-overflow-add-count invariant-loop decreases-loop
-add-count c = omega (arith, c.before.before.before.loop.invariant.0, below-le c.before.before.before.before.before.args.links.now c.before.before.before.loop.n)
+add-count c = omega (arith, c.before.before.before.loop.invariant.0, below_le c.before.before.before.before.before.args.links.now c.before.before.before.loop.n)
 
 add-n : tie.Need-overflow-add-n invariant-loop decreases-loop
 add-n c = omega arith
@@ -41,7 +41,7 @@ loop-again c =
 returns : tie.Need-returns invariant-loop decreases-loop
 unfolding live
 returns c =
-    c.before.loop.invariant.0 ∙ ap (liveBelow c.before.before.before.args.links.now) (omega arith)
+    c.before.loop.invariant.0 ∙ ap (live_below c.before.before.before.args.links.now) (omega arith)
 
 pub live-spec : {M : Type 1} → statement M
 live-spec =

@@ -2,7 +2,7 @@
 use mathlib.Core.Path.{ap, ◌∙◌}
 use Rattle.primitive.specs.Slots.{slot_of}
 use Rattle.linking.specs.Link.{newest}
-use Rattle.linking.proofs.LinkLaws.{newest-none, newest-same, newest-other}
+use Rattle.linking.proofs.LinkLaws.{newest_none, newest_same, newest_other}
 use borrow.Author.Rules.{rules}
 use Rattle.links.proofs.link.is_newest.Statement.{statement}
 use Rattle.links.proofs.link.is_newest.Tie as tie
@@ -13,7 +13,7 @@ returns c =
     let enum_told = c.enum_told in
     let opened = c.before.before.«open» in
     let get = c.before.before.before.get in
-    rw (← (opened.ensures ∙ ap slot_of get.ensures)) (newest-none _ _ _ enum_told.given.1)
+    rw (← (opened.ensures ∙ ap slot_of get.ensures)) (newest_none _ _ _ enum_told.given.1)
 
 returns-2 : tie.Need-returns-2
 unfolding newest
@@ -25,7 +25,7 @@ returns-2 c =
     let s = c.before.before.before.before.before.s in
     let opened = c.before.before.before.before.before.before.before.«open» in
     let get = c.before.before.before.before.before.before.before.before.get in
-    rw (← (opened.ensures ∙ ap slot_of get.ensures)) (newest-same _ _ _ s.given.1 get2.ensures same.ensures if1.true get3.ensures)
+    rw (← (opened.ensures ∙ ap slot_of get.ensures)) (newest_same _ _ _ s.given.1 get2.ensures same.ensures if1.true get3.ensures)
 
 returns-3 : tie.Need-returns-3
 unfolding newest
@@ -36,7 +36,7 @@ returns-3 c =
     let s = c.before.before.before.before.s in
     let opened = c.before.before.before.before.before.before.«open» in
     let get = c.before.before.before.before.before.before.before.get in
-    rw (← (opened.ensures ∙ ap slot_of get.ensures)) (newest-other _ _ _ s.given.1 get2.ensures same.ensures if1.false)
+    rw (← (opened.ensures ∙ ap slot_of get.ensures)) (newest_other _ _ _ s.given.1 get2.ensures same.ensures if1.false)
 
 pub is-newest-spec : {M : Type 1} → statement M
 is-newest-spec =

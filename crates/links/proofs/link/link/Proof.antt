@@ -1,5 +1,5 @@
 -- `links::link::link` meets its contract. Assumes nothing.
-use Rattle.linking.proofs.LinkLaws.{link-kept, link-again, link-newest, link-made}
+use Rattle.linking.proofs.LinkLaws.{link_kept, link_again, link_newest, link_made}
 use borrow.Author.Rules.{rules}
 use Rattle.links.proofs.link.link.Statement.{statement}
 use Rattle.links.proofs.link.link.Tie as tie
@@ -9,18 +9,18 @@ returns c =
     let if1 = c.if1 in
     let names = c.before.names in
     let get = c.before.before.before.get in
-    link-kept _ _ _ _ get.ensures names.ensures if1.true
+    link_kept _ _ _ _ get.ensures names.ensures if1.true
 
 returns-2 : tie.Need-returns-2
 returns-2 c =
     let reuse = c.before.before.before.before.reuse in
     let if2 = c.before.before.before.before.before.before.before.if2 in
     let names2 = c.before.before.before.before.before.before.before.before.names2 in
-    let next-dep = c.before.before.before.before.before.before.before.before.before.before.next-dep in
+    let next_dep_lem = c.before.before.before.before.before.before.before.before.before.before.next_dep_lem in
     let if1 = c.before.before.before.before.before.before.before.before.before.before.before.before.before.if1 in
     let names = c.before.before.before.before.before.before.before.before.before.before.before.before.before.before.names in
     let get = c.before.before.before.before.before.before.before.before.before.before.before.before.before.before.before.before.get in
-    link-again _ _ _ _ get.ensures names.ensures if1.false next-dep.ensures names2.ensures if2.true reuse.ensures
+    link_again _ _ _ _ get.ensures names.ensures if1.false next_dep_lem.ensures names2.ensures if2.true reuse.ensures
 
 returns-3 : tie.Need-returns-3
 returns-3 c =
@@ -28,11 +28,11 @@ returns-3 c =
     let is-newest = c.before.is-newest in
     let if2 = c.before.before.before.before.if2 in
     let names2 = c.before.before.before.before.before.names2 in
-    let next-dep = c.before.before.before.before.before.before.before.next-dep in
+    let next_dep_lem = c.before.before.before.before.before.before.before.next_dep_lem in
     let if1 = c.before.before.before.before.before.before.before.before.before.before.if1 in
     let names = c.before.before.before.before.before.before.before.before.before.before.before.names in
     let get = c.before.before.before.before.before.before.before.before.before.before.before.before.before.get in
-    link-newest _ _ _ _ get.ensures names.ensures if1.false next-dep.ensures names2.ensures if2.false is-newest.ensures if3.true
+    link_newest _ _ _ _ get.ensures names.ensures if1.false next_dep_lem.ensures names2.ensures if2.false is-newest.ensures if3.true
 
 returns-4 : tie.Need-returns-4
 returns-4 c =
@@ -42,11 +42,11 @@ returns-4 c =
     let is-newest = c.before.before.before.before.before.before.before.before.before.before.is-newest in
     let if2 = c.before.before.before.before.before.before.before.before.before.before.before.before.before.if2 in
     let names2 = c.before.before.before.before.before.before.before.before.before.before.before.before.before.before.names2 in
-    let next-dep = c.before.before.before.before.before.before.before.before.before.before.before.before.before.before.before.before.next-dep in
+    let next_dep_lem = c.before.before.before.before.before.before.before.before.before.before.before.before.before.before.before.before.next_dep_lem in
     let if1 = c.before.before.before.before.before.before.before.before.before.before.before.before.before.before.before.before.before.before.before.if1 in
     let names = c.before.before.before.before.before.before.before.before.before.before.before.before.before.before.before.before.before.before.before.before.names in
     let get = c.before.before.before.before.before.before.before.before.before.before.before.before.before.before.before.before.before.before.before.before.before.before.get in
-    link-made _ _ _ _ get.ensures names.ensures if1.false next-dep.ensures names2.ensures if2.false is-newest.ensures if3.false get2.ensures insert.ensures
+    link_made _ _ _ _ get.ensures names.ensures if1.false next_dep_lem.ensures names2.ensures if2.false is-newest.ensures if3.false get2.ensures insert.ensures
 
 pub link-spec : {M : Type 1} → statement M
 link-spec =

@@ -1,11 +1,11 @@
 -- `links::neighbours::next_dep` meets its contract. Assumes nothing.
-use Rattle.linking.specs.Neighbours.{nextDep}
+use Rattle.linking.specs.Neighbours.{next_dep_of}
 use borrow.Author.Rules.{rules}
 use Rattle.links.proofs.neighbours.next_dep.Statement.{statement}
 use Rattle.links.proofs.neighbours.next_dep.Tie as tie
 
 returns : tie.Need-returns
-unfolding nextDep
+unfolding next_dep_of
 returns c = rw (
   ← c.before.before.before.«open».ensures,
   c.before.enum_told.given.1,
@@ -13,7 +13,7 @@ returns c = rw (
 )
 
 returns-2 : tie.Need-returns-2
-unfolding nextDep
+unfolding next_dep_of
 returns-2 c = rw (
   ← c.before.before.before.before.«open».ensures,
   c.before.before.p.given.1,

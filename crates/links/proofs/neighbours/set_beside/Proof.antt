@@ -1,11 +1,11 @@
 -- `links::neighbours::set_beside` meets its contract. Assumes nothing.
-use Rattle.linking.specs.Neighbours.{setBeside}
+use Rattle.linking.specs.Neighbours.{set_beside}
 use borrow.Author.Rules.{rules}
 use Rattle.links.proofs.neighbours.set_beside.Statement.{statement}
 use Rattle.links.proofs.neighbours.set_beside.Tie as tie
 
 returns : tie.Need-returns
-unfolding setBeside
+unfolding set_beside
 returns c = rw (
   ← c.before.before.before.before.before.before.«open».ensures,
   c.before.before.before.before.enum_told.given.1,
@@ -13,7 +13,7 @@ returns c = rw (
 )
 
 returns-2 : tie.Need-returns-2
-unfolding setBeside
+unfolding set_beside
 returns-2 c = rw (
   ← c.before.before.before.before.before.before.before.«open».ensures,
   c.before.before.before.before.before.s.given.1,

@@ -7,10 +7,10 @@ use mathlib.Core.List.{List}
 use native.Mathlib.Omega.{arith}
 use lib.ListN.{length}
 use Rattle.primitive.specs.Slots.{slot_of}
-use Rattle.linking.specs.Free.{isLive, live}
+use Rattle.linking.specs.Free.{is_live_slot, live}
 use Rattle.linking.specs.Table.{Tab, tab}
-use Rattle.linking.specs.Ring.{isMutable, reset, cutOut, purgedBy, disposedBy, unlinkedN, more}
-use Rattle.linking.proofs.RingLaws.{not-true, not-false, cut-fewer, unlink-dead, unlink-shared, unlink-only, next-dead, next-live, more≤1, unwatched-dispose, unwatched-on, Walking, walk_start, walk_turn, walk-done}
+use Rattle.linking.specs.Ring.{is_mutable, reset, cut_out, purged_by, disposed_by, unlinked_n, more}
+use Rattle.linking.proofs.RingLaws.{not_true_lem, not_false_lem, cut_fewer, unlink_dead, unlink_shared, unlink_only, next_dead, next_live, more≤1, unwatched_dispose, unwatched_on, Walking, walk_start, walk_turn, walk_done}
 use borrow.Author.Rules.{rules}
 use borrow.Fn.Kinds.{In}
 use borrow.Fn.PlainCycle.{Measures, is, falls, and}
@@ -91,7 +91,7 @@ abbrev unwatched-of : ℕ → unwatched-lts.Claims
 unwatched-of t = (is-mutable-reads.Asked, is-mutable-reads.Learnt, dispose-below t, dispose.Post, get-reads.Asked, get-reads.Learnt, open-reads.Asked, open-reads.Learnt, join-reads.Asked, join-reads.Learnt, reset-reads.Asked, reset-reads.Learnt, purge-deps-below t, purge-deps.Post)
 
 dispose-returns : (t : ℕ) → dispose-lts.Need-returns (dispose-of t) (dispose-at t) dispose.Post
-unfolding disposedBy
+unfolding disposed_by
 dispose-returns t c =
     let enum_told = c.enum_told in
     let opened = c.before.before.«open» in
@@ -104,7 +104,7 @@ dispose-returns t c =
     }
 
 dispose-returns-2 : (t : ℕ) → dispose-lts.Need-returns-2 (dispose-of t) (dispose-at t) dispose.Post
-unfolding disposedBy
+unfolding disposed_by
 dispose-returns-2 t c =
     let unlink = c.before.before.before.before.unlink in
     let get2 = c.before.before.before.before.before.before.before.get2 in
@@ -134,15 +134,15 @@ purge-deps-loop-holds : (t : ℕ) → purge-deps-lts.Need-loop-init (purge-deps-
 purge-deps-loop-holds t c = record { lens = (refl, refl); fewer = omega arith; walk = λ k h. walk_start k _ _ _ h }
 
 purge-deps-returns : (t : ℕ) → purge-deps-lts.Need-returns (purge-deps-of t) (purge-deps-at t) purge-deps.Post purge-deps-Inv-loop purge-deps-μ-loop
-unfolding purgedBy
+unfolding purged_by
 purge-deps-returns t c =
     let enum_told = c.enum_told in
     let turn = c.before.before.loop in
     let opened = c.before.before.before.«open» in
-    let next-dep = c.before.before.before.before.next-dep in
+    let next_dep_lem = c.before.before.before.before.next_dep_lem in
     let get = c.before.before.before.before.before.before.before.get in
     record {
-      same = λ k h. rw (← get.ensures, ← next-dep.ensures, ← opened.ensures) (walk-done k _ _ _ _ _ (turn.invariant.walk k h) enum_told.given.1);
+      same = λ k h. rw (← get.ensures, ← next_dep_lem.ensures, ← opened.ensures) (walk_done k _ _ _ _ _ (turn.invariant.walk k h) enum_told.given.1);
       fewer = turn.invariant.fewer;
     }
 
@@ -169,8 +169,8 @@ unlink-returns t c =
     let is_live = c.before.is_live in
     let a = c.before.before.before.before.before.args in
     let b = tab a.nodes.now a.links.now in
-    let e : isLive a.links.now a.s ≡ false = sym is_live.ensures ∙ not-true _ if1.true in
-    record { same = λ k h. unlink-dead b a.s a.sub e k; fewer = omega arith; next = next-dead b a.s a.sub e }
+    let e : is_live_slot a.links.now a.s ≡ false = sym is_live.ensures ∙ not_true_lem _ if1.true in
+    record { same = λ k h. unlink_dead b a.s a.sub e k; fewer = omega arith; next = next_dead b a.s a.sub e }
 
 unlink-unwatched-requires : (t : ℕ) → unlink-lts.Need-unwatched-requires (unlink-of t) (unlink-at t) unlink.Post
 unlink-unwatched-requires t c κs =
@@ -180,8 +180,8 @@ unlink-unwatched-requires t c κs =
     let a = c.before.before.before.before.before.before.before.before.before.before.before.before.before.before.before.before.before.before.before.before.before.before.args in
     let pre = c.before.before.before.before.before.before.before.before.before.before.before.before.before.before.before.before.before.before.before.before.before.before.requires in
     let b = tab a.nodes.now a.links.now in
-    let f : isLive a.links.now a.s ≡ true = sym is_live.ensures ∙ not-false _ if1.false in
-    (omega (arith, pre.0, ap (λ (x : Tab). live x.links) cut_out.ensures, cut-fewer b a.s a.sub f), tt)
+    let f : is_live_slot a.links.now a.s ≡ true = sym is_live.ensures ∙ not_false_lem _ if1.false in
+    (omega (arith, pre.0, ap (λ (x : Tab). live x.links) cut_out.ensures, cut_fewer b a.s a.sub f), tt)
 
 unlink-returns-2 : (t : ℕ) → unlink-lts.Need-returns-2 (unlink-of t) (unlink-at t) unlink.Post
 unlink-returns-2 t c =
@@ -196,12 +196,12 @@ unlink-returns-2 t c =
     let is_live = c.before.before.before.before.before.before.before.before.before.before.before.before.before.before.before.before.before.before.before.before.before.before.before.is_live in
     let a = c.before.before.before.before.before.before.before.before.before.before.before.before.before.before.before.before.before.before.before.before.before.before.before.before.before.before.before.args in
     let b = tab a.nodes.now a.links.now in
-    let f : isLive a.links.now a.s ≡ true = sym is_live.ensures ∙ not-false _ if1.false in
-    let n = opened.ensures ∙ ap slot_of get2.ensures ∙ next-live b a.s a.sub f in
-    let o = cut-fewer b a.s a.sub f in
-    let q : live cut_out.new.1.0 ≡ live (cutOut b a.s a.sub).links = ap (λ (x : Tab). live x.links) cut_out.ensures in
+    let f : is_live_slot a.links.now a.s ≡ true = sym is_live.ensures ∙ not_false_lem _ if1.false in
+    let n = opened.ensures ∙ ap slot_of get2.ensures ∙ next_live b a.s a.sub f in
+    let o = cut_fewer b a.s a.sub f in
+    let q : live cut_out.new.1.0 ≡ live (cut_out b a.s a.sub).links = ap (λ (x : Tab). live x.links) cut_out.ensures in
     record {
-      same = λ k h. unlink-only b a.s a.sub f k h (sym is-only.ensures ∙ if2.true) (λ j hj. rw (← cut_out.ensures, ← get.ensures) (unwatched.ensures.same j (omega (arith, q, hj))));
+      same = λ k h. unlink_only b a.s a.sub f k h (sym is-only.ensures ∙ if2.true) (λ j hj. rw (← cut_out.ensures, ← get.ensures) (unwatched.ensures.same j (omega (arith, q, hj))));
       fewer = omega (arith, unwatched.ensures.fewer, more≤1 opened.result, o, q);
       next = n;
     }
@@ -217,12 +217,12 @@ unlink-returns-3 t c =
     let is_live = c.before.before.before.before.before.before.before.before.before.before.before.before.before.before.before.before.is_live in
     let a = c.before.before.before.before.before.before.before.before.before.before.before.before.before.before.before.before.before.before.before.before.args in
     let b = tab a.nodes.now a.links.now in
-    let f : isLive a.links.now a.s ≡ true = sym is_live.ensures ∙ not-false _ if1.false in
-    let n = opened.ensures ∙ ap slot_of get2.ensures ∙ next-live b a.s a.sub f in
-    let o = cut-fewer b a.s a.sub f in
-    let q : live cut_out.new.1.0 ≡ live (cutOut b a.s a.sub).links = ap (λ (x : Tab). live x.links) cut_out.ensures in
+    let f : is_live_slot a.links.now a.s ≡ true = sym is_live.ensures ∙ not_false_lem _ if1.false in
+    let n = opened.ensures ∙ ap slot_of get2.ensures ∙ next_live b a.s a.sub f in
+    let o = cut_fewer b a.s a.sub f in
+    let q : live cut_out.new.1.0 ≡ live (cut_out b a.s a.sub).links = ap (λ (x : Tab). live x.links) cut_out.ensures in
     record {
-      same = λ k h. cut_out.ensures ∙ unlink-shared b a.s a.sub f k h (sym is-only.ensures ∙ if2.false);
+      same = λ k h. cut_out.ensures ∙ unlink_shared b a.s a.sub f k h (sym is-only.ensures ∙ if2.false);
       fewer = omega (arith, more≤1 opened.result, o, q);
       next = n;
     }
@@ -235,7 +235,7 @@ unwatched-returns t c =
     let a = c.before.before.before.before.before.before.before.before.before.before.before.before.args in
     let b = tab a.nodes.now a.links.now in
     record {
-      same = λ k h. dispose.ensures.same k h ∙ unwatched-dispose (unlinkedN k) k b a.n (sym is-mutable.ensures ∙ not-true _ if1.true);
+      same = λ k h. dispose.ensures.same k h ∙ unwatched_dispose (unlinked_n k) k b a.n (sym is-mutable.ensures ∙ not_true_lem _ if1.true);
       fewer = dispose.ensures.fewer;
     }
 
@@ -248,9 +248,9 @@ unwatched-returns-2 t c =
     let is-mutable = c.before.before.before.before.before.before.is-mutable in
     let a = c.before.before.before.before.before.before.before.before.before.before.args in
     let b = tab a.nodes.now a.links.now in
-    let m : isMutable a.nodes.now a.n ≡ true = sym is-mutable.ensures ∙ not-false _ if1.false in
+    let m : is_mutable a.nodes.now a.n ≡ true = sym is-mutable.ensures ∙ not_false_lem _ if1.false in
     let o = sym (opened.ensures ∙ ap slot_of get.ensures) ∙ enum-told2.given.1 in
-    record { same = λ k h. unwatched-on (unlinkedN k) k b a.n m o; fewer = omega arith }
+    record { same = λ k h. unwatched_on (unlinked_n k) k b a.n m o; fewer = omega arith }
 
 unwatched-returns-3 : (t : ℕ) → unwatched-lts.Need-returns-3 (unwatched-of t) (unwatched-at t) unwatched.Post
 unwatched-returns-3 t c =
@@ -264,11 +264,11 @@ unwatched-returns-3 t c =
     let is-mutable = c.before.before.before.before.before.before.before.before.before.before.before.before.before.before.before.before.before.before.is-mutable in
     let a = c.before.before.before.before.before.before.before.before.before.before.before.before.before.before.before.before.before.before.before.before.before.before.args in
     let b = tab a.nodes.now a.links.now in
-    let m : isMutable a.nodes.now a.n ≡ true = sym is-mutable.ensures ∙ not-false _ if1.false in
+    let m : is_mutable a.nodes.now a.n ≡ true = sym is-mutable.ensures ∙ not_false_lem _ if1.false in
     let o = sym (opened.ensures ∙ ap slot_of get.ensures) ∙ enum_told.given.1 in
     let r = cleared.ensures ∙ ap (reset a.nodes.now a.n) join.ensures in
     record {
-      same = λ k h. purge-deps.ensures.same k h ∙ ap (λ (x : List ℕ). purgedBy (unlinkedN k) k (tab x a.links.now) a.n) r ∙ unwatched-on (unlinkedN k) k b a.n m o;
+      same = λ k h. purge-deps.ensures.same k h ∙ ap (λ (x : List ℕ). purged_by (unlinked_n k) k (tab x a.links.now) a.n) r ∙ unwatched_on (unlinked_n k) k b a.n m o;
       fewer = purge-deps.ensures.fewer;
     }
 

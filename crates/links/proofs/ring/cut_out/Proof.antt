@@ -1,11 +1,11 @@
 -- `links::ring::cut_out` meets its contract. Assumes nothing.
-use Rattle.linking.specs.Ring.{cutOut, mended}
+use Rattle.linking.specs.Ring.{cut_out, mended}
 use borrow.Author.Rules.{rules}
 use Rattle.links.proofs.ring.cut_out.Statement.{statement}
 use Rattle.links.proofs.ring.cut_out.Tie as tie
 
 returns : tie.Need-returns
-unfolding cutOut mended
+unfolding cut_out mended
 returns c = rw (
   ← c.before.before.before.before.before.before.before.before.before.before.before.before.before.before.before.before.before.before.before.before.before.before.before.before.before.before.before.before.before.before.before.before.before.before.before.before.before.before.before.before.get.ensures,
   ← c.before.before.before.before.before.before.before.before.before.before.before.before.before.before.before.before.before.before.before.before.before.before.before.before.before.before.before.before.before.before.before.before.before.before.before.before.before.before.get2.ensures,

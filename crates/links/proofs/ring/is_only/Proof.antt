@@ -1,11 +1,11 @@
 -- `links::ring::is_only` meets its contract. Assumes nothing.
-use Rattle.linking.specs.Ring.{isOnly}
+use Rattle.linking.specs.Ring.{is_only}
 use borrow.Author.Rules.{rules}
 use Rattle.links.proofs.ring.is_only.Statement.{statement}
 use Rattle.links.proofs.ring.is_only.Tie as tie
 
 returns : tie.Need-returns
-unfolding isOnly
+unfolding is_only
 returns c = rw (
   ← c.before.before.before.before.get.ensures,
   ← c.before.before.before.«open».ensures,
@@ -14,7 +14,7 @@ returns c = rw (
 )
 
 returns-2 : tie.Need-returns-2
-unfolding isOnly
+unfolding is_only
 returns-2 c = rw (
   ← c.before.before.before.get.ensures,
   ← c.before.before.«open».ensures,

@@ -3,8 +3,8 @@
 use mathlib.Core.Path.{◌≡◌, refl, sym, ◌∙◌}
 use lib.ListN.{length}
 use Rattle.marking.specs.Notify.{climbed}
-use Rattle.marking.proofs.NotifyLaws.{climb-end, climb-none, climb-stop, climb-more}
-use Rattle.marking.proofs.Tests.{masked-zero}
+use Rattle.marking.proofs.NotifyLaws.{climb_end, climb_none, climb_stop, climb_more}
+use Rattle.marking.proofs.Tests.{masked_zero}
 use borrow.Author.Rules.{rules}
 use Rattle.marks.proofs.effects.climb.Statement.{statement}
 use Rattle.marks.proofs.effects.climb.Tie as tie
@@ -31,7 +31,7 @@ returns c =
     let c₅ = c₄.before in
     sym
     (c₅.loop.invariant.0
-    ∙ climb-none _ _ _ c₃.enqueue.ensures c₂.get.ensures c₁.«open».ensures _ c₄.loop-test.true c.enum_told.given.1)
+    ∙ climb_none _ _ _ c₃.enqueue.ensures c₂.get.ensures c₁.«open».ensures _ c₄.loop-test.true c.enum_told.given.1)
 
 same-length-2 : tie.Need-same-length-2 invariant-loop decreases-loop
 same-length-2 c = c.before.before.before.before.before.before.before.before.before.before.before.before.before.before.enqueue.auto.0 ∙ c.before.before.before.before.before.before.before.before.before.before.before.before.before.before.before.before.before.loop.invariant.1
@@ -50,8 +50,8 @@ returns-2 c =
     let c₁₀ = c₉.before in
     sym
     (c₁₀.loop.invariant.0
-    ∙ climb-stop _ _ _ c₈.enqueue.ensures c₇.get.ensures c₆.«open».ensures c₅.s.given.1 c₄.get2.ensures c₃.flags.ensures _
-    c₉.loop-test.true (masked-zero _ _ c₂.mask.ensures c₁.is_zero.ensures c.if1.true))
+    ∙ climb_stop _ _ _ c₈.enqueue.ensures c₇.get.ensures c₆.«open».ensures c₅.s.given.1 c₄.get2.ensures c₃.flags.ensures _
+    c₉.loop-test.true (masked_zero _ _ c₂.mask.ensures c₁.is_zero.ensures c.if1.true))
 
 loop-again : tie.Need-loop-preserved invariant-loop decreases-loop
 loop-again c =
@@ -66,8 +66,8 @@ loop-again c =
     let c₉ = c₈.before.before in
     let c₁₀ = c₉.before in (
       c₁₀.loop.invariant.0
-          ∙ climb-more _ _ _ c₈.enqueue.ensures c₇.get.ensures c₆.«open».ensures c₅.s.given.1 c₄.get2.ensures c₃.flags.ensures _
-          c₉.loop-test.true (masked-zero _ _ c₂.mask.ensures c₁.is_zero.ensures c.if1.false),
+          ∙ climb_more _ _ _ c₈.enqueue.ensures c₇.get.ensures c₆.«open».ensures c₅.s.given.1 c₄.get2.ensures c₃.flags.ensures _
+          c₉.loop-test.true (masked_zero _ _ c₂.mask.ensures c₁.is_zero.ensures c.if1.false),
       c₈.enqueue.auto.0 ∙ c₁₀.loop.invariant.1,
     )
 
@@ -75,7 +75,7 @@ same-length-3 : tie.Need-same-length-3 invariant-loop decreases-loop
 same-length-3 c = c.before.loop.invariant.1
 
 returns-3 : tie.Need-returns-3 invariant-loop decreases-loop
-returns-3 c = sym (c.before.loop.invariant.0 ∙ climb-end _ _ _ _ c.loop-test.false)
+returns-3 c = sym (c.before.loop.invariant.0 ∙ climb_end _ _ _ _ c.loop-test.false)
 
 pub climb-spec : {M : Type 1} → statement M
 climb-spec =

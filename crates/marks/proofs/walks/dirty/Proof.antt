@@ -1,6 +1,6 @@
 -- `marks::walks::dirty` meets its contract. Assumes nothing.
 use Rattle.marking.proofs.Tests.{masked_same}
-use Rattle.marking.proofs.ShallowLaws.{dirty-not, dirty-wakes, dirty-rests}
+use Rattle.marking.proofs.ShallowLaws.{dirty_not, dirty_wakes, dirty_rests}
 use borrow.Author.Rules.{rules}
 use Rattle.marks.proofs.walks.dirty.Statement.{statement}
 use Rattle.marks.proofs.walks.dirty.Tie as tie
@@ -18,7 +18,7 @@ returns c =
     let c₉ = c₈.before in
     let c₁₀ = c₉.before in
     let c₁₁ = c₁₀.before in
-    dirty-wakes _ _ _ c₁₁.flags.ensures
+    dirty_wakes _ _ _ c₁₁.flags.ensures
     (masked_same _ _ c₁₀.mask.ensures _ c₉.same.ensures c₈.if1.true)
     c₇.join.ensures
     c₆.set-flags.ensures
@@ -36,7 +36,7 @@ returns-2 c =
     let c₇ = c₆.before in
     let c₈ = c₇.before in
     let c₉ = c₈.before in
-    dirty-rests _ _ _ c₉.flags.ensures
+    dirty_rests _ _ _ c₉.flags.ensures
     (masked_same _ _ c₈.mask.ensures _ c₇.same.ensures c₆.if1.true)
     c₅.join.ensures
     c₄.set-flags.ensures
@@ -47,7 +47,7 @@ returns-3 c =
     let c₁ = c.before in
     let c₂ = c₁.before in
     let c₃ = c₂.before in
-    dirty-not _ _ _ c₃.flags.ensures (masked_same _ _ c₂.mask.ensures _ c₁.same.ensures c.if1.false)
+    dirty_not _ _ _ c₃.flags.ensures (masked_same _ _ c₂.mask.ensures _ c₁.same.ensures c.if1.false)
 
 pub dirty-spec : {M : Type 1} → statement M
 dirty-spec =

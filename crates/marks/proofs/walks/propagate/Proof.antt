@@ -4,9 +4,9 @@ use mathlib.Core.Path.{◌≡◌, refl, sym, ap, ◌∙◌}
 use mathlib.Core.List.{List}
 use Prim.Native.Nat.{ℕ, ◌-◌}
 use lib.ListN.{length}
-use Rattle.stack.specs.Stack.{pushed, pushedLen}
+use Rattle.stack.specs.Stack.{pushed, pushed_len}
 use Rattle.marking.specs.Walks.{place, along, walked, blank, propagated}
-use Rattle.marking.proofs.WalkLaws.{down-push, down-flat, walk_end, turn-down, turn-flat, along-slot, along-none, push-nothing, back-nothing}
+use Rattle.marking.proofs.WalkLaws.{down_push, down_flat, walk_end, turn_down, turn_flat, along_slot, along_none, push_nothing, back_nothing}
 use borrow.Author.Rules.{rules}
 use Rattle.marks.proofs.walks.propagate.Statement.{statement}
 use Rattle.marks.proofs.walks.propagate.Tie as tie
@@ -29,7 +29,7 @@ flat :
     let w = place v.link v.next blank v.len in
     walked L v.left v.nodes w ≡ along (walked L (v.left - 1)) L c.before.before.before.before.before.before.before.reach.new.0 w c.«open».result)
 flat c =
-    turn-flat _ _ _ _ c.before.before.before.before.before.before.before.before.before.before.loop-test.true c.before.before.before.before.before.before.before.before.before.get2.ensures c.before.before.before.before.before.before.before.reach.ensures.0 c.before.before.before.before.before.before.before.reach.ensures.1 c.before.before.before.below.ensures c.before.enum_told.given.1 c.«open».ensures
+    turn_flat _ _ _ _ c.before.before.before.before.before.before.before.before.before.before.loop-test.true c.before.before.before.before.before.before.before.before.before.get2.ensures c.before.before.before.before.before.before.before.reach.ensures.0 c.before.before.before.before.before.before.before.reach.ensures.1 c.before.before.before.below.ensures c.before.enum_told.given.1 c.«open».ensures
 
 loop-holds : tie.Need-loop-init invariant-loop decreases-loop
 loop-holds c = record { long = refl; same = refl }
@@ -40,14 +40,14 @@ same_length c = c.before.before.before.before.before.before.before.before.before
 returns : tie.Need-returns invariant-loop decreases-loop
 unfolding propagated
 returns c =
-    let e = flat c.before.before ∙ along-none _ _ _ _ c.enum-told2.given.1 ∙ back-nothing _ _ _ 1024 _ in
+    let e = flat c.before.before ∙ along_none _ _ _ _ c.enum-told2.given.1 ∙ back_nothing _ _ _ 1024 _ in
     rw (← c.before.before.before.before.before.before.before.before.before.before.before.before.before.before.get.ensures) (sym e ∙ c.before.before.before.before.before.before.before.before.before.before.before.before.before.loop.invariant.same)
 
 loop-again : tie.Need-loop-preserved invariant-loop decreases-loop
 loop-again c =
     record {
       long = c.before.before.before.before.before.before.before.before.before.before.before.reach.auto.0 ∙ c.before.before.before.before.before.before.before.before.before.before.before.before.before.before.before.loop.invariant.long;
-      same = sym (flat c.before.before.before.before ∙ along-slot _ _ _ _ c.before.before.along.given.1 c.get3.ensures) ∙ c.before.before.before.before.before.before.before.before.before.before.before.before.before.before.before.loop.invariant.same;
+      same = sym (flat c.before.before.before.before ∙ along_slot _ _ _ _ c.before.before.along.given.1 c.get3.ensures) ∙ c.before.before.before.before.before.before.before.before.before.before.before.before.before.before.before.loop.invariant.same;
     }
 
 loop-again-2 : tie.Need-loop-preserved-2 invariant-loop decreases-loop
@@ -55,8 +55,8 @@ loop-again-2 c =
     let L = c.before.before.before.before.before.before.before.before.before.before.before.before.before.before.before.before.before.before.before.args.links.now in
     let v = c.before.before.before.before.before.before.before.before.before.before.before.before.before.before.before.loop in
     let w = place v.link v.next blank v.len in
-    let e = turn-down L v.nodes v.left w c.before.before.before.before.before.before.before.before.before.before.before.before.before.before.loop-test.true c.before.before.before.before.before.before.before.before.before.before.before.before.before.get2.ensures c.before.before.before.before.before.before.before.before.before.before.before.reach.ensures.0 c.before.before.before.before.before.before.before.before.before.before.before.reach.ensures.1 c.before.before.before.before.before.before.before.below.ensures c.before.before.before.before.before.down.given.1 in
-    let d = down-flat L w _ c.before.before.before.get4.ensures c.before.before.open2.ensures c.enum-told4.given.1 in
+    let e = turn_down L v.nodes v.left w c.before.before.before.before.before.before.before.before.before.before.before.before.before.before.loop-test.true c.before.before.before.before.before.before.before.before.before.before.before.before.before.get2.ensures c.before.before.before.before.before.before.before.before.before.before.before.reach.ensures.0 c.before.before.before.before.before.before.before.before.before.before.before.reach.ensures.1 c.before.before.before.before.before.before.before.below.ensures c.before.before.before.before.before.down.given.1 in
+    let d = down_flat L w _ c.before.before.before.get4.ensures c.before.before.open2.ensures c.enum-told4.given.1 in
     record {
       long = c.before.before.before.before.before.before.before.before.before.before.before.reach.auto.0 ∙ v.invariant.long;
       same = sym (e ∙ ap (walked L (v.left - 1) c.before.before.before.before.before.before.before.before.before.before.before.reach.new.0) d) ∙ v.invariant.same;
@@ -71,8 +71,8 @@ returns-2 c =
     let L = c.before.before.before.before.before.before.before.before.before.before.before.before.before.before.before.before.before.before.before.before.before.before.before.before.args.links.now in
     let v = c.before.before.before.before.before.before.before.before.before.before.before.before.before.before.before.before.before.before.before.before.loop in
     let w = place v.link v.next blank v.len in
-    let e = turn-down L v.nodes v.left w c.before.before.before.before.before.before.before.before.before.before.before.before.before.before.before.before.before.before.before.loop-test.true c.before.before.before.before.before.before.before.before.before.before.before.before.before.before.before.before.before.before.get2.ensures c.before.before.before.before.before.before.before.before.before.before.before.before.before.before.before.before.reach.ensures.0 c.before.before.before.before.before.before.before.before.before.before.before.before.before.before.before.before.reach.ensures.1 c.before.before.before.before.before.before.before.before.before.before.before.before.below.ensures c.before.before.before.before.before.before.before.before.before.before.down.given.1 in
-    let d = down-push L w _ c.before.before.before.before.before.before.before.before.get4.ensures c.before.before.before.before.before.before.before.open2.ensures c.before.before.before.before.before.enum-told3.given.1 in
+    let e = turn_down L v.nodes v.left w c.before.before.before.before.before.before.before.before.before.before.before.before.before.before.before.before.before.before.before.loop-test.true c.before.before.before.before.before.before.before.before.before.before.before.before.before.before.before.before.before.before.get2.ensures c.before.before.before.before.before.before.before.before.before.before.before.before.before.before.before.before.reach.ensures.0 c.before.before.before.before.before.before.before.before.before.before.before.before.before.before.before.before.reach.ensures.1 c.before.before.before.before.before.before.before.before.before.before.before.before.below.ensures c.before.before.before.before.before.before.before.before.before.before.down.given.1 in
+    let d = down_push L w _ c.before.before.before.before.before.before.before.before.get4.ensures c.before.before.before.before.before.before.before.open2.ensures c.before.before.before.before.before.enum-told3.given.1 in
     rw (← c.before.before.before.before.before.before.before.before.before.before.before.before.before.before.before.before.before.before.before.before.before.get.ensures) (c.before.before.propagate-on.ensures ∙ sym (e ∙ ap (walked L (v.left - 1) c.before.before.before.before.before.before.before.before.before.before.before.before.before.before.before.before.reach.new.0) d) ∙ v.invariant.same)
 
 -- to leave nothing aside changes no word of the stack
@@ -81,10 +81,10 @@ loop-again-3 c =
     let L = c.before.before.before.before.before.before.before.before.before.before.before.before.before.before.before.before.before.before.before.before.before.args.links.now in
     let v = c.before.before.before.before.before.before.before.before.before.before.before.before.before.before.before.before.before.loop in
     let w = place v.link v.next blank v.len in
-    let e = turn-down L v.nodes v.left w c.before.before.before.before.before.before.before.before.before.before.before.before.before.before.before.before.loop-test.true c.before.before.before.before.before.before.before.before.before.before.before.before.before.before.before.get2.ensures c.before.before.before.before.before.before.before.before.before.before.before.before.before.reach.ensures.0 c.before.before.before.before.before.before.before.before.before.before.before.before.before.reach.ensures.1 c.before.before.before.before.before.before.before.before.before.below.ensures c.before.before.before.before.before.before.before.down.given.1 in
-    let d = down-push L w _ c.before.before.before.before.before.get4.ensures c.before.before.before.before.open2.ensures c.before.before.enum-told3.given.1 in
-    let z : pushed blank v.len v.next ≡ blank = ap (λ (n : ℕ). pushed blank v.len n) c.before.if1.false ∙ push-nothing 1024 v.len in
-    let q = d ∙ ap (λ (A : List ℕ). place c.before.before.before.before.before.before.before.down.given.0.0 c.before.before.before.before.before.get4.result A (pushedLen blank v.len)) z in
+    let e = turn_down L v.nodes v.left w c.before.before.before.before.before.before.before.before.before.before.before.before.before.before.before.before.loop-test.true c.before.before.before.before.before.before.before.before.before.before.before.before.before.before.before.get2.ensures c.before.before.before.before.before.before.before.before.before.before.before.before.before.reach.ensures.0 c.before.before.before.before.before.before.before.before.before.before.before.before.before.reach.ensures.1 c.before.before.before.before.before.before.before.before.before.below.ensures c.before.before.before.before.before.before.before.down.given.1 in
+    let d = down_push L w _ c.before.before.before.before.before.get4.ensures c.before.before.before.before.open2.ensures c.before.before.enum-told3.given.1 in
+    let z : pushed blank v.len v.next ≡ blank = ap (λ (n : ℕ). pushed blank v.len n) c.before.if1.false ∙ push_nothing 1024 v.len in
+    let q = d ∙ ap (λ (A : List ℕ). place c.before.before.before.before.before.before.before.down.given.0.0 c.before.before.before.before.before.get4.result A (pushed_len blank v.len)) z in
     record {
       long = c.before.before.before.before.before.before.before.before.before.before.before.before.before.reach.auto.0 ∙ v.invariant.long;
       same = rw c.one-higher.ensures (sym (e ∙ ap (walked L (v.left - 1) c.before.before.before.before.before.before.before.before.before.before.before.before.before.reach.new.0) q) ∙ v.invariant.same);

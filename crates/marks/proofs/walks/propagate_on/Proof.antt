@@ -4,7 +4,7 @@ use mathlib.Core.Path.{◌≡◌, refl, sym, ap, ◌∙◌}
 use Prim.Native.Nat.{◌-◌}
 use lib.ListN.{length}
 use Rattle.marking.specs.Walks.{place, back, along, walked}
-use Rattle.marking.proofs.WalkLaws.{down-push, down-flat, walk_end, turn-down, turn-flat, along-slot, along-none, back_end, back-slot, back_none, pop-less}
+use Rattle.marking.proofs.WalkLaws.{down_push, down_flat, walk_end, turn_down, turn_flat, along_slot, along_none, back_end, back_slot, back_none, pop_less}
 use borrow.Author.Rules.{rules}
 use Rattle.marks.proofs.walks.propagate_on.Statement.{statement}
 use Rattle.marks.proofs.walks.propagate_on.Tie as tie
@@ -35,7 +35,7 @@ flat :
     let w = place v.link v.next v.stack v.len in
     walked L v.left v.nodes w ≡ along (walked L (v.left - 1)) L c.before.before.before.before.before.before.before.reach.new.0 w c.«open».result)
 flat c =
-    turn-flat _ _ _ _ c.before.before.before.before.before.before.before.before.before.before.top-test.true c.before.before.before.before.before.before.before.before.before.get.ensures c.before.before.before.before.before.before.before.reach.ensures.0 c.before.before.before.before.before.before.before.reach.ensures.1 c.before.before.before.below.ensures
+    turn_flat _ _ _ _ c.before.before.before.before.before.before.before.before.before.before.top-test.true c.before.before.before.before.before.before.before.before.before.get.ensures c.before.before.before.before.before.before.before.reach.ensures.0 c.before.before.before.before.before.before.before.reach.ensures.1 c.before.before.before.below.ensures
     c.before.enum_told.given.1 c.«open».ensures
 
 top-holds : tie.Need-top-init invariant-loop decreases-loop invariant-top decreases-top
@@ -45,7 +45,7 @@ loop-holds : tie.Need-loop-init invariant-loop decreases-loop invariant-top decr
 loop-holds c = refl
 
 loop-less : tie.Need-loop-smaller invariant-loop decreases-loop invariant-top decreases-top
-loop-less c = pop-less _ _ c.before.before.before.before.before.before.pop.ensures c.before.before.before.before.w.given.1
+loop-less c = pop_less _ _ c.before.before.before.before.before.before.pop.ensures c.before.before.before.before.w.given.1
 
 loop-again : tie.Need-loop-preserved invariant-loop decreases-loop invariant-top decreases-top
 loop-again c =
@@ -67,8 +67,8 @@ top_again c =
     let c₈ = c₇.before.before.before.before.before.before.before in
     let c₉ = c₈.before.before.before.before in
     let v = c₉.top in
-    let e = flat (c₇) ∙ along-none _ _ _ _ c₆.enum-told2.given.1 ∙ sym c₅.loop.invariant in
-    let d = back-slot _ _ _ _ _ c₄.pop.ensures c₃.w.given.1 c₂.open2.ensures c₁.back.given.1 c.get2.ensures in
+    let e = flat (c₇) ∙ along_none _ _ _ _ c₆.enum-told2.given.1 ∙ sym c₅.loop.invariant in
+    let d = back_slot _ _ _ _ _ c₄.pop.ensures c₃.w.given.1 c₂.open2.ensures c₁.back.given.1 c.get2.ensures in
     record {
       long = c₈.reach.auto.0 ∙ v.invariant.long;
       whole = v.invariant.whole;
@@ -86,7 +86,7 @@ returns c =
     let c₄ = c₃.before.before in
     let c₅ = c₄.before.before.before.before.before.before.before.before.before.before.before in
     let v = c₅.top in
-    let e = flat (c₄) ∙ along-none _ _ _ _ c₃.enum-told2.given.1 ∙ sym c₂.loop.invariant in
+    let e = flat (c₄) ∙ along_none _ _ _ _ c₃.enum-told2.given.1 ∙ sym c₂.loop.invariant in
     let d = back_end _ _ _ _ _ c₁.pop.ensures c.enum-told4.given.1 in
     rw (← c.before.before.before.before.before.before.before.before.before.before.before.before.before.before.before.before.before.before.before.before.push.ensures.0, ← c.before.before.before.before.before.before.before.before.before.before.before.before.before.before.before.before.before.before.before.before.push.ensures.1) (sym (e ∙ d) ∙ v.invariant.same)
 
@@ -100,7 +100,7 @@ top-again-2 c =
     record {
       long = c₃.reach.auto.0 ∙ v.invariant.long;
       whole = v.invariant.whole;
-      same = sym (flat (c₂) ∙ along-slot _ _ _ _ c₁.along.given.1 c.get3.ensures) ∙ v.invariant.same;
+      same = sym (flat (c₂) ∙ along_slot _ _ _ _ c₁.along.given.1 c.get3.ensures) ∙ v.invariant.same;
     }
 
 top-again-3 : tie.Need-top-preserved-3 invariant-loop decreases-loop invariant-top decreases-top
@@ -116,8 +116,8 @@ top-again-3 c =
     let v = c₈.top in
     let L = c.before.before.before.before.before.before.before.before.before.before.before.before.before.before.before.before.before.before.before.before.before.args.links.now in
     let w = place v.link v.next v.stack v.len in
-    let e = turn-down L v.nodes v.left w c₇.top-test.true c₆.get.ensures c₅.reach.ensures.0 c₅.reach.ensures.1 c₄.below.ensures c₃.down.given.1 in
-    let d = down-flat L w _ c₂.get4.ensures c₁.open3.ensures c.enum-told6.given.1 in
+    let e = turn_down L v.nodes v.left w c₇.top-test.true c₆.get.ensures c₅.reach.ensures.0 c₅.reach.ensures.1 c₄.below.ensures c₃.down.given.1 in
+    let d = down_flat L w _ c₂.get4.ensures c₁.open3.ensures c.enum-told6.given.1 in
     record {
       long = c₅.reach.auto.0 ∙ v.invariant.long;
       whole = v.invariant.whole;
@@ -139,8 +139,8 @@ top-again-4 c =
     let v = c₁₀.top in
     let L = c.before.before.before.before.before.before.before.before.before.before.before.before.before.before.before.before.before.before.before.before.before.before.before.before.args.links.now in
     let w = place v.link v.next v.stack v.len in
-    let e = turn-down L v.nodes v.left w c₉.top-test.true c₈.get.ensures c₇.reach.ensures.0 c₇.reach.ensures.1 c₆.below.ensures c₅.down.given.1 in
-    let d = down-push L w _ c₄.get4.ensures c₃.open3.ensures c₂.enum-told5.given.1 in
+    let e = turn_down L v.nodes v.left w c₉.top-test.true c₈.get.ensures c₇.reach.ensures.0 c₇.reach.ensures.1 c₆.below.ensures c₅.down.given.1 in
+    let d = down_push L w _ c₄.get4.ensures c₃.open3.ensures c₂.enum-told5.given.1 in
     record {
       long = c₇.reach.auto.0 ∙ v.invariant.long;
       whole = c₁.push2.auto.0 ∙ v.invariant.whole;

@@ -1,7 +1,7 @@
 -- `marks::walks::reach` meets its contract. Assumes nothing.
 use mathlib.Core.Path.{sym, ◌∙◌}
-use Rattle.marking.proofs.Tests.{masked-nonzero}
-use Rattle.marking.proofs.VisitLaws.{reach-wakes, reach-rests}
+use Rattle.marking.proofs.Tests.{masked_nonzero}
+use Rattle.marking.proofs.VisitLaws.{reach_wakes, reach_rests}
 use borrow.Author.Rules.{rules}
 use Rattle.marks.proofs.walks.reach.Statement.{statement}
 use Rattle.marks.proofs.walks.reach.Tie as tie
@@ -16,8 +16,8 @@ returns c =
       c₅.visit.ensures.0,
       c₁.notify.ensures
           ∙ sym
-          (reach-wakes _ _ _ _ c₅.visit.ensures.0 c₅.visit.ensures.1
-          (masked-nonzero _ _ c₄.mask.ensures c₃.is-nonzero.ensures c₂.if1.true)),
+          (reach_wakes _ _ _ _ c₅.visit.ensures.0 c₅.visit.ensures.1
+          (masked_nonzero _ _ c₄.mask.ensures c₃.is-nonzero.ensures c₂.if1.true)),
     )
 
 returns-2 : tie.Need-returns-2
@@ -27,8 +27,8 @@ returns-2 c =
     let c₃ = c₂.before.before.before in (
       c₃.visit.ensures.0,
       sym
-          (reach-rests _ _ _ _ c₃.visit.ensures.0 c₃.visit.ensures.1
-          (masked-nonzero _ _ c₂.mask.ensures c₁.is-nonzero.ensures c.if1.false)),
+          (reach_rests _ _ _ _ c₃.visit.ensures.0 c₃.visit.ensures.1
+          (masked_nonzero _ _ c₂.mask.ensures c₁.is-nonzero.ensures c.if1.false)),
     )
 
 pub reach-spec : {M : Type 1} → statement M

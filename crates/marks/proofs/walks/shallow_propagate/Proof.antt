@@ -2,15 +2,15 @@
 -- The measure is the budget. Assumes nothing.
 use mathlib.Core.Path.{◌≡◌, refl, sym, ◌∙◌}
 use lib.ListN.{length}
-use Rattle.marking.specs.Shallow.{shallowFrom, shallow}
-use Rattle.marking.proofs.ShallowLaws.{shallow-end, shallow-none, shallow-more}
+use Rattle.marking.specs.Shallow.{shallow_from, shallow}
+use Rattle.marking.proofs.ShallowLaws.{shallow_end, shallow_none, shallow_more}
 use borrow.Author.Rules.{rules}
 use Rattle.marks.proofs.walks.shallow_propagate.Statement.{statement}
 use Rattle.marks.proofs.walks.shallow_propagate.Tie as tie
 
 abbrev invariant-loop : tie.invariant-loop
 invariant-loop nodes₀ links s link₀ left₀ nodes link left =
-    (shallowFrom links left₀ nodes₀ link₀ ≡ shallowFrom links left nodes link) × (length nodes ≡ length nodes₀)
+    (shallow_from links left₀ nodes₀ link₀ ≡ shallow_from links left nodes link) × (length nodes ≡ length nodes₀)
 
 abbrev decreases-loop : tie.decreases-loop
 decreases-loop nodes₀ links s link₀ left₀ nodes link left = left
@@ -32,7 +32,7 @@ returns c =
     let c₆ = c₅.before in
     sym
     (c₆.loop.invariant.0
-    ∙ shallow-none _ _ _ _ c₅.loop-test.true c₄.get.ensures c₃.dirty.ensures c₂.get2.ensures c₁.«open».ensures
+    ∙ shallow_none _ _ _ _ c₅.loop-test.true c₄.get.ensures c₃.dirty.ensures c₂.get2.ensures c₁.«open».ensures
     c.enum_told.given.1)
 
 loop-again : tie.Need-loop-preserved invariant-loop decreases-loop
@@ -45,7 +45,7 @@ loop-again c =
     let c₆ = c₅.before.before in
     let c₇ = c₆.before in (
       c₇.loop.invariant.0
-          ∙ shallow-more _ _ _ _ c₆.loop-test.true c₅.get.ensures c₄.dirty.ensures c₃.get2.ensures c₂.«open».ensures
+          ∙ shallow_more _ _ _ _ c₆.loop-test.true c₅.get.ensures c₄.dirty.ensures c₃.get2.ensures c₂.«open».ensures
           c₁.next.given.1,
       c₄.dirty.auto.0 ∙ c₇.loop.invariant.1,
     )
@@ -55,7 +55,7 @@ same-length-2 c = c.before.loop.invariant.1
 
 returns-2 : tie.Need-returns-2 invariant-loop decreases-loop
 unfolding shallow
-returns-2 c = sym (c.before.loop.invariant.0 ∙ shallow-end _ _ _ _ c.loop-test.false)
+returns-2 c = sym (c.before.loop.invariant.0 ∙ shallow_end _ _ _ _ c.loop-test.false)
 
 pub shallow-propagate-spec : {M : Type 1} → statement M
 shallow-propagate-spec =

@@ -1,5 +1,5 @@
 -- `operations::batches::end_batch` meets its contract. Assumes nothing.
-use Rattle.operating.proofs.RunLaws.{end_none, end-last, end-inner}
+use Rattle.operating.proofs.RunLaws.{end_none, end_last, end_inner}
 use borrow.Author.Rules.{rules}
 use Rattle.operations.proofs.batches.end_batch.Statement.{statement}
 use Rattle.operations.proofs.batches.end_batch.Tie as tie
@@ -35,13 +35,13 @@ same-length-5 : tie.Need-same-length-5
 same-length-5 c = search rules
 
 returns-2 : tie.Need-returns-2
-returns-2 c = end-last _ _ _ _ c.before.before.before.before.before.before.before.before.before.before.before.before.before.before.before.before.before.depth.ensures c.before.before.before.before.before.before.before.before.before.before.before.before.before.before.before.before.if1.false c.before.before.before.before.before.before.before.before.before.before.before.if2.true (rw (← c.before.before.before.before.before.before.before.before.before.before.before.before.before.before.put.ensures) c.before.before.before.before.before.before.flush.ensures)
+returns-2 c = end_last _ _ _ _ c.before.before.before.before.before.before.before.before.before.before.before.before.before.before.before.before.before.depth.ensures c.before.before.before.before.before.before.before.before.before.before.before.before.before.before.before.before.if1.false c.before.before.before.before.before.before.before.before.before.before.before.if2.true (rw (← c.before.before.before.before.before.before.before.before.before.before.before.before.before.before.put.ensures) c.before.before.before.before.before.before.flush.ensures)
 
 same-length-6 : tie.Need-same-length-6
 same-length-6 c = search rules
 
 returns-3 : tie.Need-returns-3
-returns-3 c = rw c.before.before.before.put.ensures (end-inner _ _ _ _ c.before.before.before.before.before.before.depth.ensures c.before.before.before.before.before.if1.false c.if2.false)
+returns-3 c = rw c.before.before.before.put.ensures (end_inner _ _ _ _ c.before.before.before.before.before.before.depth.ensures c.before.before.before.before.before.if1.false c.if2.false)
 
 pub end-batch-spec : {M : Type 1} → statement M
 end-batch-spec =

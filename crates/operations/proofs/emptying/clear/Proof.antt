@@ -5,7 +5,7 @@ use native.Mathlib.Omega.{arith}
 use lib.ListN.{length, length-set}
 use borrow.Author.Rules.{rules}
 use Rattle.operating.specs.Emptying.{zeroed}
-use Rattle.operating.proofs.EmptyLaws.{zero_turn, zero-done}
+use Rattle.operating.proofs.EmptyLaws.{zero_turn, zero_done}
 use Rattle.operations.proofs.emptying.clear.Statement.{statement}
 use Rattle.operations.proofs.emptying.clear.Tie as tie
 
@@ -37,7 +37,7 @@ same_length : tie.Need-same-length invariant-loop decreases-loop
 same_length c = c.before.loop.invariant.long
 
 returns : tie.Need-returns invariant-loop decreases-loop
-returns c = sym (zero-done 0 _ _ c.loop-test.false) ∙ c.before.loop.invariant.same
+returns c = sym (zero_done 0 _ _ c.loop-test.false) ∙ c.before.loop.invariant.same
 
 pub clear_spec : {M : Type 1} → statement M
 clear_spec =

@@ -6,7 +6,7 @@ use lib.IntN.{pos}
 use lib.ListN.{length, length-set}
 use borrow.Author.Rules.{rules}
 use Rattle.operating.specs.Emptying.{zeroed}
-use Rattle.operating.proofs.EmptyLaws.{zero_turn, zero-done}
+use Rattle.operating.proofs.EmptyLaws.{zero_turn, zero_done}
 use Rattle.operations.proofs.emptying.clear_signed.Statement.{statement}
 use Rattle.operations.proofs.emptying.clear_signed.Tie as tie
 
@@ -38,7 +38,7 @@ same_length : tie.Need-same-length invariant-loop decreases-loop
 same_length c = c.before.loop.invariant.long
 
 returns : tie.Need-returns invariant-loop decreases-loop
-returns c = sym (zero-done (pos 0) _ _ c.loop-test.false) ∙ c.before.loop.invariant.same
+returns c = sym (zero_done (pos 0) _ _ c.loop-test.false) ∙ c.before.loop.invariant.same
 
 pub clear-signed-spec : {M : Type 1} → statement M
 clear-signed-spec =

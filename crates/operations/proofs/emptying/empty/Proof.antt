@@ -1,6 +1,6 @@
 -- `operations::emptying::empty` meets its contract. Assumes nothing.
 use mathlib.Core.Path.{sym, ◌∙◌}
-use Rattle.operating.proofs.EmptyLaws.{empty-done, empty-not}
+use Rattle.operating.proofs.EmptyLaws.{empty_done, empty_not}
 use borrow.Author.Rules.{rules}
 use Rattle.operations.proofs.emptying.empty.Statement.{statement}
 use Rattle.operations.proofs.emptying.empty.Tie as tie
@@ -39,7 +39,7 @@ same-length-4 : tie.Need-same-length-4
 same-length-4 c = search rules
 
 returns : tie.Need-returns
-returns c = rw (c.before.before.before.before.before.before.before.before.before.before.before.before.before.before.before.before.clear.ensures, c.before.before.before.before.before.before.before.before.free_all.ensures, c.before.before.before.before.before.before.before.before.before.before.before.before.clear2.ensures, c.before.before.before.before.before.before.before.before.before.before.before.before.before.before.before.before.before.before.slot-room.ensures, c.before.before.before.before.clear-signed.ensures, c.before.clear-signed2.ensures) (empty-done _ _ _ _ (sym c.before.before.before.before.before.before.before.before.before.before.before.before.before.before.before.before.before.before.before.before.before.carry.ensures ∙ c.before.before.before.before.before.before.before.before.before.before.before.before.before.before.before.before.before.before.before.before.if1.true))
+returns c = rw (c.before.before.before.before.before.before.before.before.before.before.before.before.before.before.before.before.clear.ensures, c.before.before.before.before.before.before.before.before.free_all.ensures, c.before.before.before.before.before.before.before.before.before.before.before.before.clear2.ensures, c.before.before.before.before.before.before.before.before.before.before.before.before.before.before.before.before.before.before.slot-room.ensures, c.before.before.before.before.clear-signed.ensures, c.before.clear-signed2.ensures) (empty_done _ _ _ _ (sym c.before.before.before.before.before.before.before.before.before.before.before.before.before.before.before.before.before.before.before.before.before.carry.ensures ∙ c.before.before.before.before.before.before.before.before.before.before.before.before.before.before.before.before.before.before.before.before.if1.true))
 
 same-length-5 : tie.Need-same-length-5
 same-length-5 c = search rules
@@ -54,7 +54,7 @@ same-length-8 : tie.Need-same-length-8
 same-length-8 c = search rules
 
 returns-2 : tie.Need-returns-2
-returns-2 c = empty-not _ _ _ _ (sym c.before.carry.ensures ∙ c.if1.false)
+returns-2 c = empty_not _ _ _ _ (sym c.before.carry.ensures ∙ c.if1.false)
 
 pub empty-spec : {M : Type 1} → statement M
 empty-spec =

@@ -4,7 +4,7 @@ use Prim.Native.Nat.{◌-◌}
 use lib.ListN.{length}
 use borrow.Author.Rules.{rules}
 use Rattle.operating.specs.Emptying.{freed}
-use Rattle.operating.proofs.EmptyLaws.{free-turn, free-done}
+use Rattle.operating.proofs.EmptyLaws.{free_turn, free_done}
 use Rattle.operations.proofs.emptying.free_all.Statement.{statement}
 use Rattle.operations.proofs.emptying.free_all.Tie as tie
 
@@ -33,13 +33,13 @@ loop-less : tie.Need-loop-smaller invariant-loop decreases-loop
 loop-less c = search rules
 
 loop-again : tie.Need-loop-preserved invariant-loop decreases-loop
-loop-again c = record { long = c.before.before.put.auto.0 ∙ c.before.before.before.before.before.before.store.auto.0 ∙ c.before.before.before.before.before.before.before.before.before.before.before.loop.invariant.long; same = rw (c.before.before.put.ensures, c.before.before.before.before.before.before.store.ensures, c.before.before.before.before.before.before.before.before.at.ensures) (sym (free-turn _ _ c.before.before.before.before.before.before.before.before.before.before.loop-test.true) ∙ c.before.before.before.before.before.before.before.before.before.before.before.loop.invariant.same) }
+loop-again c = record { long = c.before.before.put.auto.0 ∙ c.before.before.before.before.before.before.store.auto.0 ∙ c.before.before.before.before.before.before.before.before.before.before.before.loop.invariant.long; same = rw (c.before.before.put.ensures, c.before.before.before.before.before.before.store.ensures, c.before.before.before.before.before.before.before.before.at.ensures) (sym (free_turn _ _ c.before.before.before.before.before.before.before.before.before.before.loop-test.true) ∙ c.before.before.before.before.before.before.before.before.before.before.before.loop.invariant.same) }
 
 same_length : tie.Need-same-length invariant-loop decreases-loop
 same_length c = c.before.loop.invariant.long
 
 returns : tie.Need-returns invariant-loop decreases-loop
-returns c = sym (free-done _ _ c.loop-test.false) ∙ c.before.loop.invariant.same
+returns c = sym (free_done _ _ c.loop-test.false) ∙ c.before.loop.invariant.same
 
 pub free-all-spec : {M : Type 1} → statement M
 free-all-spec =

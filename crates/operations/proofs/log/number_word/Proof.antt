@@ -1,8 +1,8 @@
 -- `operations::log::number_word` meets its contract. Assumes nothing.
 use Rattle.operating.proofs.RunLaws.{as_number}
 use borrow.Author.Rules.{rules}
-use Rattle.operations.proofs.log.number_word.Statement.{statement}
-use Rattle.operations.proofs.log.number_word.Tie as tie
+use Rattle.operations.proofs.log.number_told.Statement.{statement}
+use Rattle.operations.proofs.log.number_told.Tie as tie
 
 cast-result : tie.Need-overflow-cast-result
 cast-result c = search rules

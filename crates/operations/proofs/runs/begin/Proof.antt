@@ -1,5 +1,5 @@
 -- `operations::runs::begin` meets its contract. Assumes nothing.
-use Rattle.operating.specs.Runs.{begunRun}
+use Rattle.operating.specs.Runs.{begun_run}
 use borrow.Author.Rules.{rules}
 use Rattle.operations.proofs.runs.begin.Statement.{statement}
 use Rattle.operations.proofs.runs.begin.Tie as tie
@@ -20,7 +20,7 @@ same-length-2 : tie.Need-same-length-2
 same-length-2 c = search rules
 
 returns : tie.Need-returns
-unfolding begunRun
+unfolding begun_run
 returns c v = rw (
   ← c.before.before.before.before.before.before.before.before.before.before.raise-cycle.ensures,
   ← c.before.before.before.before.before.before.store.ensures,

@@ -1,5 +1,5 @@
 -- `operations::runs::end_run` meets its contract. Assumes nothing.
-use Rattle.operating.specs.Runs.{endedRun}
+use Rattle.operating.specs.Runs.{ended_run}
 use borrow.Author.Rules.{rules}
 use Rattle.operations.proofs.runs.end_run.Statement.{statement}
 use Rattle.operations.proofs.runs.end_run.Tie as tie
@@ -17,7 +17,7 @@ same_length : tie.Need-same-length
 same_length c = search rules
 
 returns : tie.Need-returns
-unfolding endedRun
+unfolding ended_run
 returns c = rw (
   ← c.before.before.before.before.flags.ensures,
   ← c.before.before.before.clear.ensures,

@@ -1,5 +1,5 @@
 -- `operations::runs::finish` meets its contract. Assumes nothing.
-use Rattle.operating.specs.Runs.{finishedRun}
+use Rattle.operating.specs.Runs.{finished_run}
 use borrow.Author.Rules.{rules}
 use Rattle.operations.proofs.runs.finish.Statement.{statement}
 use Rattle.operations.proofs.runs.finish.Tie as tie
@@ -17,7 +17,7 @@ same-length-2 : tie.Need-same-length-2
 same-length-2 c = search rules
 
 returns : tie.Need-returns
-unfolding finishedRun
+unfolding finished_run
 returns c v = rw (
   ← c.before.before.before.before.before.before.before.before.before.end-run.ensures,
   ← c.before.before.before.before.purge-deps.ensures,

@@ -5,12 +5,12 @@ use native.Mathlib.Omega.{arith}
 use lib.ListN.{length, drop, length-drop}
 use borrow.Author.Rules.{rules}
 use borrow.Rule.Slice.PartMut.{same_len_mid}
-use Rattle.primitive.specs.Words.{nodeRows}
+use Rattle.primitive.specs.Words.{node_rows}
 use Rattle.queue.specs.Queue.{count}
 use Rattle.reading.specs.Tables.{state}
-use Rattle.operating.specs.Log.{Ran, ranTo}
-use Rattle.operating.specs.Runs.{flushedFrom, cleared, flushed}
-use Rattle.operating.proofs.RunLaws.{rest_of, put_rest, next-ran, count_low, ran-fits, flush-start, flush-step, flush-done}
+use Rattle.operating.specs.Log.{Ran, ran_to}
+use Rattle.operating.specs.Runs.{flushed_from, cleared, flushed}
+use Rattle.operating.proofs.RunLaws.{rest_of, put_rest, next_ran, count_low, ran_fits, flush_start, flush_step, flush_done}
 use Rattle.operations.proofs.runs.flush.Statement.{statement}
 use Rattle.operations.proofs.runs.flush.Tie as tie
 
@@ -18,14 +18,14 @@ abbrev invariant-loop : tie.invariant-loop
 invariant-loop nodes₀ links₀ values₀ cells log₀ i₀ rows₀ nodes links values log i rows = record {
   lens : (length nodes ≡ length nodes₀) × (length links ≡ length links₀) × (length values ≡ length values₀) × (length log ≡ length log₀);
   fit : rows * 2 ≤ length log;
-  same : flushedFrom cells (nodeRows nodes₀ - i) i (ranTo (state nodes links values) log rows) ≡ flushedFrom cells (nodeRows nodes₀) 0 (ranTo (state nodes₀ links₀ values₀) log₀ 0);
+  same : flushed_from cells (node_rows nodes₀ - i) i (ran_to (state nodes links values) log rows) ≡ flushed_from cells (node_rows nodes₀) 0 (ran_to (state nodes₀ links₀ values₀) log₀ 0);
 }
 
 abbrev decreases-loop : tie.decreases-loop
-decreases-loop nodes₀ links₀ values₀ cells log₀ i₀ rows₀ nodes links values log i rows = nodeRows nodes₀ - i
+decreases-loop nodes₀ links₀ values₀ cells log₀ i₀ rows₀ nodes links values log i rows = node_rows nodes₀ - i
 
 loop-holds : tie.Need-loop-init invariant-loop decreases-loop
-loop-holds c = record { lens = (refl, refl, refl, refl); fit = omega arith; same = flush-start _ _ _ }
+loop-holds c = record { lens = (refl, refl, refl, refl); fit = omega arith; same = flush_start _ _ _ }
 
 length-requires : tie.Need-length-requires invariant-loop decreases-loop
 length-requires c κs = search rules
@@ -57,7 +57,7 @@ add-rows c =
     let a = c.before.before.before.before.before.before.before.before.before.before.before.before.before.before.before.before.before.before.before.args in
     let s = state v.nodes v.links v.values in
     let r = rw (rest_of (v.rows * 2) v.log) at c.before.before.before.before.before.before.run.ensures in
-    omega (arith, ap (λ (q : Ran). q.rows) r, ran-fits a.cells.now s (drop (v.rows * 2) v.log) c.before.before.before.before.before.before.before.before.before.before.before.entry.result, length-drop (v.rows * 2) v.log, v.invariant.fit)
+    omega (arith, ap (λ (q : Ran). q.rows) r, ran_fits a.cells.now s (drop (v.rows * 2) v.log) c.before.before.before.before.before.before.before.before.before.before.before.entry.result, length-drop (v.rows * 2) v.log, v.invariant.fit)
 
 add-i : tie.Need-overflow-add-i invariant-loop decreases-loop
 add-i c = search rules
@@ -77,9 +77,9 @@ loop-again c =
     let i : v.i < count v.nodes = omega (arith, c.before.before.before.before.before.before.before.before.before.before.before.before.before.if1.true, c.before.before.before.before.before.before.before.before.before.before.before.before.before.before.length.ensures) in
     record {
       lens = (c.before.before.before.before.before.before.run.auto.0 ∙ v.invariant.lens.0, c.before.before.before.before.before.before.run.auto.1.0 ∙ v.invariant.lens.1, c.before.before.before.before.before.before.run.auto.1.1.0 ∙ v.invariant.lens.2, l ∙ v.invariant.lens.3);
-      fit = omega (arith, l, ap (λ (q : Ran). q.rows) r, ran-fits a.cells.now s (drop at v.log) c.before.before.before.before.before.before.before.before.before.before.before.entry.result, length-drop at v.log, v.invariant.fit);
-      same = rw (put_rest at v.log c.before.before.before.before.before.before.run.new.1.1.1.1.0 v.invariant.fit, next-ran a.cells.now s _ v.log _ v.rows _ c.before.before.before.before.before.before.before.before.before.before.before.entry.result r, c.before.before.before.before.before.before.before.before.before.before.before.entry.ensures)
-          (sym (flush-step a.cells.now (nodeRows a.nodes.now) v.i (ranTo s v.log v.rows) i (omega (arith, i, count_low v.nodes, v.invariant.lens.0))) ∙ v.invariant.same);
+      fit = omega (arith, l, ap (λ (q : Ran). q.rows) r, ran_fits a.cells.now s (drop at v.log) c.before.before.before.before.before.before.before.before.before.before.before.entry.result, length-drop at v.log, v.invariant.fit);
+      same = rw (put_rest at v.log c.before.before.before.before.before.before.run.new.1.1.1.1.0 v.invariant.fit, next_ran a.cells.now s _ v.log _ v.rows _ c.before.before.before.before.before.before.before.before.before.before.before.entry.result r, c.before.before.before.before.before.before.before.before.before.before.before.entry.ensures)
+          (sym (flush_step a.cells.now (node_rows a.nodes.now) v.i (ran_to s v.log v.rows) i (omega (arith, i, count_low v.nodes, v.invariant.lens.0))) ∙ v.invariant.same);
     }
 
 clear-requires : tie.Need-clear-requires invariant-loop decreases-loop
@@ -101,7 +101,7 @@ returns : tie.Need-returns invariant-loop decreases-loop
 unfolding flushed cleared
 returns c =
     let v = c.before.before.before.before.before.before.before.loop in
-    let e = sym (flush-done c.before.before.before.before.before.before.before.before.before.before.args.cells.now _ _ (ranTo (state v.nodes v.links v.values) v.log v.rows) (omega (arith, c.before.before.before.before.if1.false, c.before.before.before.before.before.length.ensures))) ∙ v.invariant.same in
+    let e = sym (flush_done c.before.before.before.before.before.before.before.before.before.before.args.cells.now _ _ (ran_to (state v.nodes v.links v.values) v.log v.rows) (omega (arith, c.before.before.before.before.if1.false, c.before.before.before.before.before.length.ensures))) ∙ v.invariant.same in
     rw c.before.before.clear.ensures (ap cleared e)
 
 pub flush-spec : {M : Type 1} → statement M

@@ -1,5 +1,5 @@
 -- `operations::runs::run` meets its contract. Assumes nothing.
-use Rattle.operating.proofs.RunLaws.{ran-once, ran-not}
+use Rattle.operating.proofs.RunLaws.{ran_once, ran_not}
 use borrow.Author.Rules.{rules}
 use Rattle.operations.proofs.runs.run.Statement.{statement}
 use Rattle.operations.proofs.runs.run.Tie as tie
@@ -26,7 +26,7 @@ same-length-4 : tie.Need-same-length-4
 same-length-4 c = search rules
 
 returns : tie.Need-returns
-returns c = ran-once _ _ _ _ _ c.before.before.before.before.before.before.before.before.before.before.before.before.before.before.before.before.before.before.must-run.ensures c.before.before.before.before.before.before.before.before.before.before.before.before.if1.true c.before.before.before.before.before.before.before.before.rerun.ensures c.before.write-row.ensures.0 c.before.write-row.ensures.1
+returns c = ran_once _ _ _ _ _ c.before.before.before.before.before.before.before.before.before.before.before.before.before.before.before.before.before.before.must-run.ensures c.before.before.before.before.before.before.before.before.before.before.before.before.if1.true c.before.before.before.before.before.before.before.before.rerun.ensures c.before.write-row.ensures.0 c.before.write-row.ensures.1
 
 set-flags-requires : tie.Need-set-flags-requires
 set-flags-requires c κs = search rules
@@ -41,7 +41,7 @@ same-length-7 : tie.Need-same-length-7
 same-length-7 c = search rules
 
 returns-2 : tie.Need-returns-2
-returns-2 c = rw c.before.before.set-flags.ensures (ran-not _ _ _ _ _ c.before.before.before.before.before.before.before.before.before.before.must-run.ensures c.before.before.before.before.if1.false)
+returns-2 c = rw c.before.before.set-flags.ensures (ran_not _ _ _ _ _ c.before.before.before.before.before.before.before.before.before.before.must-run.ensures c.before.before.before.before.if1.false)
 
 pub run_spec : {M : Type 1} → statement M
 run_spec =

@@ -1,5 +1,5 @@
 -- `operations::writes::add` meets its contract. Assumes nothing.
-use Rattle.operating.proofs.RunLaws.{add-written}
+use Rattle.operating.proofs.RunLaws.{add_written}
 use borrow.Author.Rules.{rules}
 use Rattle.operations.proofs.writes.add.Statement.{statement}
 use Rattle.operations.proofs.writes.add.Tie as tie
@@ -26,7 +26,7 @@ same-length-4 : tie.Need-same-length-4
 same-length-4 c = search rules
 
 returns : tie.Need-returns
-returns c = add-written _ _ _ _ _ c.before.before.before.before.before.before.before.before.before.before.before.before.current.ensures c.before.before.before.before.before.before.before.before.before.before.before.sum.ensures c.before.before.before.before.before.before.set.ensures
+returns c = add_written _ _ _ _ _ c.before.before.before.before.before.before.before.before.before.before.before.before.current.ensures c.before.before.before.before.before.before.before.before.before.before.before.sum.ensures c.before.before.before.before.before.before.set.ensures
 
 pub add_spec : {M : Type 1} → statement M
 add_spec =

@@ -5,7 +5,7 @@ use Rattle.primitive.specs.declared.slots.Slot.TheVariants.{At, Nothing}
 use Rattle.marking.specs.Fields.{set_flags, subs}
 use Rattle.marking.specs.Walks.{propagated}
 use Rattle.operating.specs.Writes.{stored, stale}
-use Rattle.operating.proofs.RunLaws.{write_same, write_alone, write-flushed, write-batched}
+use Rattle.operating.proofs.RunLaws.{write_same, write_alone, write_flushed, write_batched}
 use borrow.Author.Rules.{rules}
 use Rattle.operations.proofs.writes.set.Statement.{statement}
 use Rattle.operations.proofs.writes.set.Tie as tie
@@ -82,7 +82,7 @@ returns-3 c =
     let z : c.before.before.before.before.before.before.before.before.before.before.before.before.before.before.before.before.before.before.before.before.before.before.before.before.before.before.before.set-flags.new.0 ≡ set_flags a.nodes.now a.n stale = c.before.before.before.before.before.before.before.before.before.before.before.before.before.before.before.before.before.before.before.before.before.before.before.before.before.before.before.set-flags.ensures in
     let g : slot_of (subs (set_flags a.nodes.now a.n stale) a.n) ≡ At c.before.before.before.before.before.before.before.before.before.before.before.before.before.before.before.before.before.before.before.before.s.given.0.0 = rw (← z) (sym (c.before.before.before.before.before.before.before.before.before.before.before.before.before.before.before.before.before.before.before.before.before.before.«open».ensures ∙ ap slot_of c.before.before.before.before.before.before.before.before.before.before.before.before.before.before.before.before.before.before.before.before.before.before.before.get.ensures) ∙ c.before.before.before.before.before.before.before.before.before.before.before.before.before.before.before.before.before.before.before.before.s.given.1) in
     let q : c.before.before.before.before.before.before.before.before.before.before.before.before.before.before.before.before.propagate.new.0 ≡ propagated a.links.now (set_flags a.nodes.now a.n stale) c.before.before.before.before.before.before.before.before.before.before.before.before.before.before.before.before.before.before.before.before.s.given.0.0 = rw (← z) c.before.before.before.before.before.before.before.before.before.before.before.before.before.before.before.before.propagate.ensures in
-    write-flushed _ _ _ _ _ c.before.before.before.before.before.before.before.before.before.before.before.before.before.before.before.before.before.before.before.before.before.before.before.before.before.before.before.before.before.before.before.before.before.before.pending.ensures c.before.before.before.before.before.before.before.before.before.before.before.before.before.before.before.before.before.before.before.before.before.before.before.before.before.before.before.before.before.before.before.before.before.same.ensures c.before.before.before.before.before.before.before.before.before.before.before.before.before.before.before.before.before.before.before.before.before.before.before.before.before.before.before.before.before.before.before.before.if1.false _ g _ q (sym c.before.before.before.before.before.before.before.before.before.before.before.before.depth.ensures ∙ c.before.before.before.before.before.before.before.before.before.before.before.if2.true) (rw (← c.before.before.before.before.before.before.before.before.before.before.before.before.before.before.before.before.before.before.before.before.before.before.before.before.before.before.before.before.before.before.keep-pending.ensures) c.before.before.before.before.before.before.flush.ensures)
+    write_flushed _ _ _ _ _ c.before.before.before.before.before.before.before.before.before.before.before.before.before.before.before.before.before.before.before.before.before.before.before.before.before.before.before.before.before.before.before.before.before.before.pending.ensures c.before.before.before.before.before.before.before.before.before.before.before.before.before.before.before.before.before.before.before.before.before.before.before.before.before.before.before.before.before.before.before.before.before.same.ensures c.before.before.before.before.before.before.before.before.before.before.before.before.before.before.before.before.before.before.before.before.before.before.before.before.before.before.before.before.before.before.before.before.if1.false _ g _ q (sym c.before.before.before.before.before.before.before.before.before.before.before.before.depth.ensures ∙ c.before.before.before.before.before.before.before.before.before.before.before.if2.true) (rw (← c.before.before.before.before.before.before.before.before.before.before.before.before.before.before.before.before.before.before.before.before.before.before.before.before.before.before.before.before.before.before.keep-pending.ensures) c.before.before.before.before.before.before.flush.ensures)
 
 same-length-8 : tie.Need-same-length-8
 same-length-8 c = search rules
@@ -100,7 +100,7 @@ returns-4 c =
     let z : c.before.before.before.before.before.before.before.before.before.before.before.before.before.before.before.before.set-flags.new.0 ≡ set_flags a.nodes.now a.n stale = c.before.before.before.before.before.before.before.before.before.before.before.before.before.before.before.before.set-flags.ensures in
     let g : slot_of (subs (set_flags a.nodes.now a.n stale) a.n) ≡ At c.before.before.before.before.before.before.before.before.before.s.given.0.0 = rw (← z) (sym (c.before.before.before.before.before.before.before.before.before.before.before.«open».ensures ∙ ap slot_of c.before.before.before.before.before.before.before.before.before.before.before.before.get.ensures) ∙ c.before.before.before.before.before.before.before.before.before.s.given.1) in
     let q : c.before.before.before.before.before.propagate.new.0 ≡ propagated a.links.now (set_flags a.nodes.now a.n stale) c.before.before.before.before.before.before.before.before.before.s.given.0.0 = rw (← z) c.before.before.before.before.before.propagate.ensures in
-    rw c.before.before.before.before.before.before.before.before.before.before.before.before.before.before.before.before.before.before.before.keep-pending.ensures (write-batched _ _ _ _ _ c.before.before.before.before.before.before.before.before.before.before.before.before.before.before.before.before.before.before.before.before.before.before.before.pending.ensures c.before.before.before.before.before.before.before.before.before.before.before.before.before.before.before.before.before.before.before.before.before.before.same.ensures c.before.before.before.before.before.before.before.before.before.before.before.before.before.before.before.before.before.before.before.before.before.if1.false _ g _ q (λ e. c.if2.false (c.before.depth.ensures ∙ e)))
+    rw c.before.before.before.before.before.before.before.before.before.before.before.before.before.before.before.before.before.before.before.keep-pending.ensures (write_batched _ _ _ _ _ c.before.before.before.before.before.before.before.before.before.before.before.before.before.before.before.before.before.before.before.before.before.before.before.pending.ensures c.before.before.before.before.before.before.before.before.before.before.before.before.before.before.before.before.before.before.before.before.before.before.same.ensures c.before.before.before.before.before.before.before.before.before.before.before.before.before.before.before.before.before.before.before.before.before.if1.false _ g _ q (λ e. c.if2.false (c.before.depth.ensures ∙ e)))
 
 pub set_spec : {M : Type 1} → statement M
 set_spec =

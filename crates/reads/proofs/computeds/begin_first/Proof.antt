@@ -1,5 +1,5 @@
 -- `reads::computeds::begin_first` meets its contract. Assumes nothing.
-use Rattle.reading.specs.Steps.{begunFirst}
+use Rattle.reading.specs.Steps.{begun_first}
 use borrow.Author.Rules.{rules}
 use Rattle.reads.proofs.computeds.begin_first.Statement.{statement}
 use Rattle.reads.proofs.computeds.begin_first.Tie as tie
@@ -11,7 +11,7 @@ same_length : tie.Need-same-length
 same_length c = search rules
 
 returns : tie.Need-returns
-unfolding begunFirst
+unfolding begun_first
 returns c = rw
     (← c.before.before.set-flags.ensures)
 

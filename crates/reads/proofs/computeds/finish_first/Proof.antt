@@ -1,5 +1,5 @@
 -- `reads::computeds::finish_first` meets its contract. Assumes nothing.
-use Rattle.reading.specs.Steps.{finishedFirst}
+use Rattle.reading.specs.Steps.{finished_first}
 use borrow.Author.Rules.{rules}
 use Rattle.reads.proofs.computeds.finish_first.Statement.{statement}
 use Rattle.reads.proofs.computeds.finish_first.Tie as tie
@@ -23,7 +23,7 @@ same-length-2 : tie.Need-same-length-2
 same-length-2 c = search rules
 
 returns : tie.Need-returns
-unfolding finishedFirst
+unfolding finished_first
 returns c l = rw (
   ← c.before.before.before.before.before.before.before.before.keep-current.ensures,
   ← c.before.before.before.before.flags.ensures,

@@ -1,5 +1,5 @@
 -- `reads::cycle::cycle` meets its contract. Assumes nothing.
-use Rattle.reading.specs.Tables.{cycleOf}
+use Rattle.reading.specs.Tables.{cycle_of}
 use borrow.Author.Rules.{rules}
 use Rattle.reads.proofs.cycle.cycle.Statement.{statement}
 use Rattle.reads.proofs.cycle.cycle.Tie as tie
@@ -8,7 +8,7 @@ at-requires : tie.Need-at-requires
 at-requires c κs = search rules
 
 returns : tie.Need-returns
-unfolding cycleOf
+unfolding cycle_of
 returns c = rw
     (← c.at.ensures)
 

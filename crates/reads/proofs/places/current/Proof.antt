@@ -1,6 +1,6 @@
 -- `reads::places::current` meets its contract. Assumes nothing.
-use Rattle.reading.proofs.StepLaws.{current-out}
-use Rattle.reading.specs.Tables.{currentOf}
+use Rattle.reading.proofs.StepLaws.{current_out}
+use Rattle.reading.specs.Tables.{current_of}
 use borrow.Author.Rules.{rules}
 use Rattle.reads.proofs.places.current.Statement.{statement}
 use Rattle.reads.proofs.places.current.Tie as tie
@@ -9,7 +9,7 @@ of-requires : tie.Need-of-requires
 of-requires c κs = search rules
 
 returns : tie.Need-returns
-returns c = current-out _ _ c.before.if1.true c.of.ensures
+returns c = current_out _ _ c.before.if1.true c.of.ensures
 
 mul-load : tie.Need-overflow-mul-load
 mul-load c = search rules
@@ -18,7 +18,7 @@ load-requires : tie.Need-load-requires
 load-requires c κs = search rules
 
 returns-2 : tie.Need-returns-2
-unfolding currentOf
+unfolding current_of
 returns-2 c = c.load.ensures
 
 pub current-spec : {M : Type 1} → statement M

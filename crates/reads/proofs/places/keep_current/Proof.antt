@@ -1,12 +1,12 @@
 -- `reads::places::keep_current` meets its contract. Assumes nothing.
-use Rattle.reading.proofs.StepLaws.{set-current-out}
-use Rattle.reading.specs.Tables.{setCurrent}
+use Rattle.reading.proofs.StepLaws.{set_current_out}
+use Rattle.reading.specs.Tables.{set_current}
 use borrow.Author.Rules.{rules}
 use Rattle.reads.proofs.places.keep_current.Statement.{statement}
 use Rattle.reads.proofs.places.keep_current.Tie as tie
 
 returns : tie.Need-returns
-returns c = set-current-out _ _ c.if1.true _
+returns c = set_current_out _ _ c.if1.true _
 
 mul-keep : tie.Need-overflow-mul-keep
 mul-keep c = search rules
@@ -18,7 +18,7 @@ same_length : tie.Need-same-length
 same_length c = search rules
 
 returns-2 : tie.Need-returns-2
-unfolding setCurrent
+unfolding set_current
 returns-2 c = c.before.keep.ensures
 
 pub keep-current-spec : {M : Type 1} → statement M

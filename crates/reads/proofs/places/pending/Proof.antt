@@ -1,6 +1,6 @@
 -- `reads::places::pending` meets its contract. Assumes nothing.
-use Rattle.reading.proofs.StepLaws.{pending-out}
-use Rattle.reading.specs.Tables.{pendingOf}
+use Rattle.reading.proofs.StepLaws.{pending_out}
+use Rattle.reading.specs.Tables.{pending_of}
 use borrow.Author.Rules.{rules}
 use Rattle.reads.proofs.places.pending.Statement.{statement}
 use Rattle.reads.proofs.places.pending.Tie as tie
@@ -9,7 +9,7 @@ of-requires : tie.Need-of-requires
 of-requires c κs = search rules
 
 returns : tie.Need-returns
-returns c = pending-out _ _ c.before.if1.true c.of.ensures
+returns c = pending_out _ _ c.before.if1.true c.of.ensures
 
 mul-load : tie.Need-overflow-mul-load
 mul-load c = search rules
@@ -21,7 +21,7 @@ load-requires : tie.Need-load-requires
 load-requires c κs = search rules
 
 returns-2 : tie.Need-returns-2
-unfolding pendingOf
+unfolding pending_of
 returns-2 c = c.load.ensures
 
 pub pending-spec : {M : Type 1} → statement M

@@ -1,7 +1,7 @@
 -- `reads::read::evaluate` meets its contract. Assumes nothing.
 use native.Mathlib.Omega.{arith}
 use Rattle.reading.specs.Tables.{rank_of}
-use Rattle.reading.specs.Read.{evaluatedFor}
+use Rattle.reading.specs.Read.{evaluated_for}
 use borrow.Author.Rules.{rules}
 use Rattle.reads.proofs.read.evaluate.Statement.{statement}
 use Rattle.reads.proofs.read.evaluate.Tie as tie
@@ -22,7 +22,7 @@ same-length-3 : tie.Need-same-length-3
 same-length-3 c = search rules
 
 returns : tie.Need-returns
-unfolding evaluatedFor
+unfolding evaluated_for
 returns c = rw (← c.before.before.before.before.before.before.before.before.before.before.get.ensures, ← c.before.before.before.before.before.before.evaluate.ensures (rank_of c.before.before.before.before.before.before.before.before.before.before.before.before.before.before.args.n) (omega arith))
 
 pub evaluate-spec : {M : Type 1} → statement M

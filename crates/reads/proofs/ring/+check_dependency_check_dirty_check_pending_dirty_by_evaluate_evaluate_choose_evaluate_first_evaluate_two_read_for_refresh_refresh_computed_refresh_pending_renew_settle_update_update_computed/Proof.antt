@@ -7,8 +7,8 @@ use Rattle.values.specs.Values.{value}
 use native.Mathlib.Omega.{arith}
 use lib.ListN.{length}
 use Rattle.reading.specs.Tables.{state, rank_of}
-use Rattle.reading.specs.Ring.{evaluatedBy, depsBy, checkedBy, ringN}
-use Rattle.reading.proofs.RingLaws.{lower-refresh, lower-check, worked-none, worked-constant, worked-read, worked-two, worked-choose, worked-bad, constant-inside, read-inside, two-inside, choose-inside, read_lower, read-not, two-worked, choose-third, choose-second, first-worked, update-worked, updated-signal, updated-computed, updated-other, refreshed-signal, refreshed-computed, refreshed-other, settle-changed, settle-same, pending-changed, pending-same, dependency-stale, dependency-unsure, dependency-clean, dirty-already, dirty-dependency, dirty-not, deps-out, deps-end, deps-changed, deps-same, renew-changed, renew-same, surely-changed, surely-same, computed-dirty, computed-pending, computed-first, computed-clean}
+use Rattle.reading.specs.Ring.{evaluated_by, deps_by, checked_by, ring_n}
+use Rattle.reading.proofs.RingLaws.{lower_refresh, lower_check, worked_none, worked_constant, worked_read, worked_two, worked_choose, worked_bad, constant_inside, read_inside, two_inside, choose_inside, read_lower, read_not, two_worked, choose_third, choose_second, first_worked, update_worked, updated_the_signal, updated_computed, updated_other, refreshed_signal_lem, refreshed_computed, refreshed_other, settle_changed, settle_same, pending_changed, pending_same, dependency_stale, dependency_unsure, dependency_clean, dirty_already, dirty_dependency, dirty_not, deps_out, deps_end, deps_changed, deps_same, renew_changed, renew_same, surely_changed, surely_same, computed_dirty, computed_pending, computed_first, computed_clean}
 use Prim.Native.Nat.{ℕ, ◌+◌, ◌*◌, ◌<◌, ◌≤◌}
 use borrow.Author.Rules.{rules}
 use borrow.Fn.Kinds.{In}
@@ -63,7 +63,7 @@ use Rattle.reads.proofs.ring.update_computed.Kinds as update-computed-kinds
 use Rattle.reads.proofs.ring.+check_dependency_check_dirty_check_pending_dirty_by_evaluate_evaluate_choose_evaluate_first_evaluate_two_read_for_refresh_refresh_computed_refresh_pending_renew_settle_update_update_computed.Lts-update_computed as update-computed-lts
 use Rattle.formula.proofs.cells.cell_at.Reads as cell-at-reads
 use Rattle.formula.proofs.cells.end.Reads as end_reads
-use Rattle.links.proofs.link.link.Reads as link-reads
+use Rattle.links.proofs.link.link.Reads as link_reads
 use Rattle.marks.proofs.nodes.flags.Reads as flags-reads
 use Rattle.marks.proofs.nodes.set_flags.Reads as set-flags-reads
 use Rattle.flags.proofs.Flags.clear.Reads as clear_reads
@@ -83,7 +83,7 @@ use Rattle.reads.proofs.ring.apply.Reads as apply-reads
 use Rattle.reads.proofs.ring.nothing.Reads as nothing-reads
 use Rattle.reads.proofs.signals.refresh_signal.Reads as refresh-signal-reads
 use Rattle.reads.proofs.signals.update_signal.Reads as update-signal-reads
-use Rattle.reads.proofs.tests.has.Reads as has-reads
+use Rattle.reads.proofs.tests.has.Reads as has_reads
 use Rattle.reads.proofs.tests.has_all.Reads as has-all-reads
 use Rattle.reads.proofs.wakes.wake.Reads as wake-reads
 use Rattle.reads.proofs.wakes.wake_others.Reads as wake-others-reads
@@ -321,7 +321,7 @@ abbrev check-pending-of : ℕ → check-pending-lts.Claims
 check-pending-of t = (check-dirty-below t, check-dirty.Post, settle-below t, settle.Post, flags-reads.Asked, flags-reads.Learnt, clear_reads.Asked, clear_reads.Learnt, set-flags-reads.Asked, set-flags-reads.Learnt)
 
 abbrev dirty-by-of : ℕ → dirty-by-lts.Claims
-dirty-by-of t = (flags-reads.Asked, flags-reads.Learnt, has-reads.Asked, has-reads.Learnt, rank-reads.Asked, rank-reads.Learnt, check-dependency-below t, check-dependency.Post)
+dirty-by-of t = (flags-reads.Asked, flags-reads.Learnt, has_reads.Asked, has_reads.Learnt, rank-reads.Asked, rank-reads.Learnt, check-dependency-below t, check-dependency.Post)
 
 abbrev evaluate-of : ℕ → evaluate-lts.Claims
 evaluate-of t = (nothing-reads.Asked, nothing-reads.Learnt, cell-at-reads.Asked, cell-at-reads.Learnt, of-reads.Asked, of-reads.Learnt, read-for-below t, read-for.Post, evaluate-two-below t, evaluate-two.Post, evaluate-choose-below t, evaluate-choose.Post)
@@ -336,13 +336,13 @@ abbrev evaluate-two-of : ℕ → evaluate-two-lts.Claims
 evaluate-two-of t = (evaluate-below t, evaluate.Post, apply-reads.Asked, apply-reads.Learnt)
 
 abbrev read-for-of : ℕ → read-for-lts.Claims
-read-for-of t = (rank-reads.Asked, rank-reads.Learnt, refresh-below t, refresh.Post, cycle-reads.Asked, cycle-reads.Learnt, link-reads.Asked, link-reads.Learnt, current-reads.Asked, current-reads.Learnt, of-reads.Asked, of-reads.Learnt)
+read-for-of t = (rank-reads.Asked, rank-reads.Learnt, refresh-below t, refresh.Post, cycle-reads.Asked, cycle-reads.Learnt, link_reads.Asked, link_reads.Learnt, current-reads.Asked, current-reads.Learnt, of-reads.Asked, of-reads.Learnt)
 
 abbrev refresh-of : ℕ → refresh-lts.Claims
 refresh-of t = (get-reads.Asked, get-reads.Learnt, refresh-signal-reads.Asked, refresh-signal-reads.Learnt, refresh-computed-below t, refresh-computed.Post)
 
 abbrev refresh-computed-of : ℕ → refresh-computed-lts.Claims
-refresh-computed-of t = (flags-reads.Asked, flags-reads.Learnt, has-reads.Asked, has-reads.Learnt, renew-below t, renew.Post, refresh-pending-below t, refresh-pending.Post, flags-Flags-is-zero-reads.Asked, flags-Flags-is-zero-reads.Learnt, evaluate-first-below t, evaluate-first.Post)
+refresh-computed-of t = (flags-reads.Asked, flags-reads.Learnt, has_reads.Asked, has_reads.Learnt, renew-below t, renew.Post, refresh-pending-below t, refresh-pending.Post, flags-Flags-is-zero-reads.Asked, flags-Flags-is-zero-reads.Learnt, evaluate-first-below t, evaluate-first.Post)
 
 abbrev refresh-pending-of : ℕ → refresh-pending-lts.Claims
 refresh-pending-of t = (check-dirty-below t, check-dirty.Post, renew-below t, renew.Post, clear_reads.Asked, clear_reads.Learnt, set-flags-reads.Asked, set-flags-reads.Learnt)
@@ -364,7 +364,7 @@ check-dependency-returns t c k h =
     let a = c.before.before.before.before.before.before.before.before.before.before.before.before.before.before.before.args in
     let ws = a.cells.now in
     let s = state a.nodes.now a.links.now a.values.now in
-    dependency-stale ws (ringN ws k) s a.m c.before.before.before.before.before.before.before.before.before.before.before.flags.ensures c.before.before.before.before.before.before.before.before.before.before.has_all.ensures c.before.before.before.before.before.before.before.before.before.if1.true (c.before.before.before.before.before.settle.ensures k (omega arith))
+    dependency_stale ws (ring_n ws k) s a.m c.before.before.before.before.before.before.before.before.before.before.before.flags.ensures c.before.before.before.before.before.before.before.before.before.before.has_all.ensures c.before.before.before.before.before.before.before.before.before.if1.true (c.before.before.before.before.before.settle.ensures k (omega arith))
 
 check-dependency-check-pending-requires :
     (t : ℕ) → check-dependency-lts.Need-check-pending-requires (check-dependency-of t) (check-dependency-at t) check-dependency.Post
@@ -375,21 +375,21 @@ check-dependency-returns-2 t c k h =
     let a = c.before.before.before.before.before.before.before.before.before.before.before.before.before.before.before.before.before.args in
     let ws = a.cells.now in
     let s = state a.nodes.now a.links.now a.values.now in
-    dependency-unsure ws (ringN ws k) s a.m c.before.before.before.before.before.before.before.before.before.before.before.before.before.flags.ensures c.before.before.before.before.before.before.before.before.before.before.before.before.has_all.ensures c.before.before.before.before.before.before.before.before.before.before.before.if1.false c.before.before.before.before.before.before.before.before.before.before.has-all2.ensures c.before.before.before.before.before.before.before.before.before.if2.true (c.before.before.before.before.before.check-pending.ensures k h)
+    dependency_unsure ws (ring_n ws k) s a.m c.before.before.before.before.before.before.before.before.before.before.before.before.before.flags.ensures c.before.before.before.before.before.before.before.before.before.before.before.before.has_all.ensures c.before.before.before.before.before.before.before.before.before.before.before.if1.false c.before.before.before.before.before.before.before.before.before.before.has-all2.ensures c.before.before.before.before.before.before.before.before.before.if2.true (c.before.before.before.before.before.check-pending.ensures k h)
 
 check-dependency-returns-3 : (t : ℕ) → check-dependency-lts.Need-returns-3 (check-dependency-of t) (check-dependency-at t) check-dependency.Post
 check-dependency-returns-3 t c k h =
     let a = c.before.before.before.before.before.before.before.before.args in
     let ws = a.cells.now in
     let s = state a.nodes.now a.links.now a.values.now in
-    dependency-clean ws (ringN ws k) s a.m c.before.before.before.before.flags.ensures c.before.before.before.has_all.ensures c.before.before.if1.false c.before.has-all2.ensures c.if2.false
+    dependency_clean ws (ring_n ws k) s a.m c.before.before.before.before.flags.ensures c.before.before.before.has_all.ensures c.before.before.if1.false c.before.has-all2.ensures c.if2.false
 
 abbrev check-dirty-Inv-loop : check-dirty-lts.invariant-loop
 check-dirty-Inv-loop nodes₀ links₀ values₀ cells n link₀ left₀ nodes links values link left =
     record {
       lens : (length nodes ≡ length nodes₀) × (length links ≡ length links₀) × (length values ≡ length values₀);
       same : (k : ℕ) → rank_of n ≤ k
-          → depsBy cells (ringN cells k) n left (state nodes links values) link ≡ depsBy cells (ringN cells k) n left₀ (state nodes₀ links₀ values₀) link₀;
+          → deps_by cells (ring_n cells k) n left (state nodes links values) link ≡ deps_by cells (ring_n cells k) n left₀ (state nodes₀ links₀ values₀) link₀;
     }
 
 abbrev check-dirty-μ-loop : check-dirty-lts.decreases-loop
@@ -412,14 +412,14 @@ check-dirty-same-length-3 t c =
     c.before.before.before.before.loop.invariant.lens.2
 
 check-dirty-returns : (t : ℕ) → check-dirty-lts.Need-returns (check-dirty-of t) (check-dirty-at t) check-dirty.Post check-dirty-Inv-loop check-dirty-μ-loop
-unfolding checkedBy
+unfolding checked_by
 check-dirty-returns t c k h =
     let a = c.before.before.before.before.before.before.before.before.before.args in
     let ws = a.cells.now in
     let s = state a.nodes.now a.links.now a.values.now in
     let v = c.before.before.before.before.loop in
     let st = state v.nodes v.links v.values in
-    rw (← c.before.before.before.before.before.get.ensures) (deps-end ws (ringN ws k) a.n st v.link v.left c.before.before.«open».ensures c.enum_told.given.1 ∙ v.invariant.same k h)
+    rw (← c.before.before.before.before.before.get.ensures) (deps_end ws (ring_n ws k) a.n st v.link v.left c.before.before.«open».ensures c.enum_told.given.1 ∙ v.invariant.same k h)
 
 check-dirty-same-length-4 : (t : ℕ) → check-dirty-lts.Need-same-length-4 (check-dirty-of t) (check-dirty-at t) check-dirty.Post check-dirty-Inv-loop check-dirty-μ-loop
 check-dirty-same-length-4 t c =
@@ -434,14 +434,14 @@ check-dirty-same-length-6 t c =
     c.before.before.before.before.before.before.dirty-by.auto.1.1.0 ∙ c.before.before.before.before.before.before.before.before.before.before.before.before.before.before.before.before.before.before.before.loop.invariant.lens.2
 
 check-dirty-returns-2 : (t : ℕ) → check-dirty-lts.Need-returns-2 (check-dirty-of t) (check-dirty-at t) check-dirty.Post check-dirty-Inv-loop check-dirty-μ-loop
-unfolding checkedBy
+unfolding checked_by
 check-dirty-returns-2 t c k h =
     let a = c.before.before.before.before.before.before.before.before.before.before.before.before.before.before.before.before.before.before.before.before.before.before.before.before.args in
     let ws = a.cells.now in
     let s = state a.nodes.now a.links.now a.values.now in
     let v = c.before.before.before.before.before.before.before.before.before.before.before.before.before.before.before.before.before.before.before.loop in
     let st = state v.nodes v.links v.values in
-    rw (← c.before.before.before.before.before.before.before.before.before.before.before.before.before.before.before.before.before.before.before.before.get.ensures) (deps-changed ws (ringN ws k) a.n st v.link _ c.before.before.before.before.before.before.before.before.before.before.before.before.before.before.before.before.before.«open».ensures c.before.before.before.before.before.before.before.before.before.before.before.before.before.before.before.s.given.1 c.before.before.before.before.before.before.before.before.before.before.before.before.get2.ensures _ (c.before.before.before.before.before.before.dirty-by.ensures k h) v.left c.before.before.before.before.before.before.before.before.before.before.before.before.before.before.before.before.before.before.loop-test.true c.if1.true ∙ v.invariant.same k h)
+    rw (← c.before.before.before.before.before.before.before.before.before.before.before.before.before.before.before.before.before.before.before.before.get.ensures) (deps_changed ws (ring_n ws k) a.n st v.link _ c.before.before.before.before.before.before.before.before.before.before.before.before.before.before.before.before.before.«open».ensures c.before.before.before.before.before.before.before.before.before.before.before.before.before.before.before.s.given.1 c.before.before.before.before.before.before.before.before.before.before.before.before.get2.ensures _ (c.before.before.before.before.before.before.dirty-by.ensures k h) v.left c.before.before.before.before.before.before.before.before.before.before.before.before.before.before.before.before.before.before.loop-test.true c.if1.true ∙ v.invariant.same k h)
 
 check-dirty-loop-less : (t : ℕ) → check-dirty-lts.Need-loop-smaller (check-dirty-of t) (check-dirty-at t) check-dirty.Post check-dirty-Inv-loop check-dirty-μ-loop
 check-dirty-loop-less t c =
@@ -456,7 +456,7 @@ check-dirty-loop-again t c =
     let st = state v.nodes v.links v.values in
     record {
       lens = (c.before.before.before.before.before.before.dirty-by.auto.0 ∙ v.invariant.lens.0, c.before.before.before.before.before.before.dirty-by.auto.1.0 ∙ v.invariant.lens.1, c.before.before.before.before.before.before.dirty-by.auto.1.1.0 ∙ v.invariant.lens.2);
-      same = λ k h. deps-same ws (ringN ws k) a.n st v.link _ c.before.before.before.before.before.before.before.before.before.before.before.before.before.before.before.before.before.«open».ensures c.before.before.before.before.before.before.before.before.before.before.before.before.before.before.before.s.given.1 c.before.before.before.before.before.before.before.before.before.before.before.before.get2.ensures _ (c.before.before.before.before.before.before.dirty-by.ensures k h) v.left c.before.before.before.before.before.before.before.before.before.before.before.before.before.before.before.before.before.before.loop-test.true c.if1.false c.before.before.before.before.before.before.before.before.before.before.get3.ensures ∙ v.invariant.same k h;
+      same = λ k h. deps_same ws (ring_n ws k) a.n st v.link _ c.before.before.before.before.before.before.before.before.before.before.before.before.before.before.before.before.before.«open».ensures c.before.before.before.before.before.before.before.before.before.before.before.before.before.before.before.s.given.1 c.before.before.before.before.before.before.before.before.before.before.before.before.get2.ensures _ (c.before.before.before.before.before.before.dirty-by.ensures k h) v.left c.before.before.before.before.before.before.before.before.before.before.before.before.before.before.before.before.before.before.loop-test.true c.if1.false c.before.before.before.before.before.before.before.before.before.before.get3.ensures ∙ v.invariant.same k h;
     }
 
 check-dirty-same-length-7 : (t : ℕ) → check-dirty-lts.Need-same-length-7 (check-dirty-of t) (check-dirty-at t) check-dirty.Post check-dirty-Inv-loop check-dirty-μ-loop
@@ -472,84 +472,84 @@ check-dirty-same-length-9 t c =
     c.before.loop.invariant.lens.2
 
 check-dirty-returns-3 : (t : ℕ) → check-dirty-lts.Need-returns-3 (check-dirty-of t) (check-dirty-at t) check-dirty.Post check-dirty-Inv-loop check-dirty-μ-loop
-unfolding checkedBy
+unfolding checked_by
 check-dirty-returns-3 t c k h =
     let a = c.before.before.before.before.before.before.args in
     let ws = a.cells.now in
     let s = state a.nodes.now a.links.now a.values.now in
     let v = c.before.loop in
     let st = state v.nodes v.links v.values in
-    rw (← c.before.before.get.ensures) (deps-out ws (ringN ws k) a.n st v.link v.left c.loop-test.false ∙ v.invariant.same k h)
+    rw (← c.before.before.get.ensures) (deps_out ws (ring_n ws k) a.n st v.link v.left c.loop-test.false ∙ v.invariant.same k h)
 
 check-pending-returns : (t : ℕ) → check-pending-lts.Need-returns (check-pending-of t) (check-pending-at t) check-pending.Post
 check-pending-returns t c k h =
     let a = c.before.before.before.before.before.before.before.before.before.before.before.before.before.before.before.before.before.before.before.before.before.args in
     let ws = a.cells.now in
     let s = state a.nodes.now a.links.now a.values.now in
-    pending-changed ws (ringN ws k) s a.m _ (lower-check ws s a.m c.before.before.before.before.before.before.before.before.before.before.before.before.before.before.before.check-dirty.ensures k h) c.before.before.before.before.before.before.before.before.before.if1.true (c.before.before.before.before.before.settle.ensures k (omega arith))
+    pending_changed ws (ring_n ws k) s a.m _ (lower_check ws s a.m c.before.before.before.before.before.before.before.before.before.before.before.before.before.before.before.check-dirty.ensures k h) c.before.before.before.before.before.before.before.before.before.if1.true (c.before.before.before.before.before.settle.ensures k (omega arith))
 
 check-pending-returns-2 : (t : ℕ) → check-pending-lts.Need-returns-2 (check-pending-of t) (check-pending-at t) check-pending.Post
 check-pending-returns-2 t c k h =
     let a = c.before.before.before.before.before.before.before.before.before.before.before.before.before.before.before.before.before.before.before.args in
     let ws = a.cells.now in
     let s = state a.nodes.now a.links.now a.values.now in
-    pending-same ws (ringN ws k) s a.m _ (lower-check ws s a.m c.before.before.before.before.before.before.before.before.before.before.before.before.before.check-dirty.ensures k h) c.before.before.before.before.before.before.before.if1.false c.before.before.before.before.flags.ensures c.before.before.before.clear.ensures c.before.before.set-flags.ensures
+    pending_same ws (ring_n ws k) s a.m _ (lower_check ws s a.m c.before.before.before.before.before.before.before.before.before.before.before.before.before.check-dirty.ensures k h) c.before.before.before.before.before.before.before.if1.false c.before.before.before.before.flags.ensures c.before.before.before.clear.ensures c.before.before.set-flags.ensures
 
 dirty-by-returns : (t : ℕ) → dirty-by-lts.Need-returns (dirty-by-of t) (dirty-by-at t) dirty-by.Post
 dirty-by-returns t c k h =
     let a = c.before.before.before.before.before.before.args in
     let ws = a.cells.now in
     let s = state a.nodes.now a.links.now a.values.now in
-    dirty-already ws (ringN ws k) s a.n a.m c.before.before.flags.ensures c.before.has.ensures c.if1.true
+    dirty_already ws (ring_n ws k) s a.n a.m c.before.before.flags.ensures c.before.has.ensures c.if1.true
 
 dirty-by-returns-2 : (t : ℕ) → dirty-by-lts.Need-returns-2 (dirty-by-of t) (dirty-by-at t) dirty-by.Post
 dirty-by-returns-2 t c k h =
     let a = c.before.before.before.before.before.before.before.before.before.before.before.before.before.before.before.before.before.before.args in
     let ws = a.cells.now in
     let s = state a.nodes.now a.links.now a.values.now in
-    dirty-dependency ws (ringN ws k) s a.n a.m c.before.before.before.before.before.before.before.before.before.before.before.before.before.before.flags.ensures c.before.before.before.before.before.before.before.before.before.before.before.before.before.has.ensures c.before.before.before.before.before.before.before.before.before.before.before.before.if1.false c.before.before.before.before.before.before.before.before.before.before.before.rank.ensures c.before.before.before.before.before.before.before.before.before.before.rank2.ensures c.before.before.before.before.before.before.before.before.before.if2.true (c.before.before.before.before.before.check-dependency.ensures k (omega (arith, c.before.before.before.before.before.before.before.before.before.before.before.rank.ensures, c.before.before.before.before.before.before.before.before.before.before.rank2.ensures, c.before.before.before.before.before.before.before.before.before.if2.true, h)))
+    dirty_dependency ws (ring_n ws k) s a.n a.m c.before.before.before.before.before.before.before.before.before.before.before.before.before.before.flags.ensures c.before.before.before.before.before.before.before.before.before.before.before.before.before.has.ensures c.before.before.before.before.before.before.before.before.before.before.before.before.if1.false c.before.before.before.before.before.before.before.before.before.before.before.rank.ensures c.before.before.before.before.before.before.before.before.before.before.rank2.ensures c.before.before.before.before.before.before.before.before.before.if2.true (c.before.before.before.before.before.check-dependency.ensures k (omega (arith, c.before.before.before.before.before.before.before.before.before.before.before.rank.ensures, c.before.before.before.before.before.before.before.before.before.before.rank2.ensures, c.before.before.before.before.before.before.before.before.before.if2.true, h)))
 
 dirty-by-returns-3 : (t : ℕ) → dirty-by-lts.Need-returns-3 (dirty-by-of t) (dirty-by-at t) dirty-by.Post
 dirty-by-returns-3 t c k h =
     let a = c.before.before.before.before.before.before.before.before.before.args in
     let ws = a.cells.now in
     let s = state a.nodes.now a.links.now a.values.now in
-    dirty-not ws (ringN ws k) s a.n a.m c.before.before.before.before.before.flags.ensures c.before.before.before.before.has.ensures c.before.before.before.if1.false c.before.before.rank.ensures c.before.rank2.ensures c.if2.false
+    dirty_not ws (ring_n ws k) s a.n a.m c.before.before.before.before.before.flags.ensures c.before.before.before.before.has.ensures c.before.before.before.if1.false c.before.before.rank.ensures c.before.rank2.ensures c.if2.false
 
 evaluate-returns : (t : ℕ) → evaluate-lts.Need-returns (evaluate-of t) (evaluate-at t) evaluate.Post
 evaluate-returns t c k h =
     let a = c.before.before.before.before.args in
     let ws = a.cells.now in
     let s = state a.nodes.now a.links.now a.values.now in
-    worked-none ws (ringN ws k) a.n s a.at c.before.if1.true c.nothing.ensures.0 c.nothing.ensures.1
+    worked_none ws (ring_n ws k) a.n s a.at c.before.if1.true c.nothing.ensures.0 c.nothing.ensures.1
 
 evaluate-add-t17 : (t : ℕ) → evaluate-lts.Need-overflow-add-t17 (evaluate-of t) (evaluate-at t) evaluate.Post
 evaluate-add-t17 t c =
     let a = c.before.before.before.before.before.before.before.before.args in
     let ws = a.cells.now in
     let s = state a.nodes.now a.links.now a.values.now in
-    let i = constant-inside ws (ringN ws 0) a.n s a.at a.depth c.before.before.before.before.before.if1.false c.before.before.before.before.Cell-at.ensures c.before.before.cell.given.1 in omega (arith, i)
+    let i = constant_inside ws (ring_n ws 0) a.n s a.at a.depth c.before.before.before.before.before.if1.false c.before.before.before.before.Cell-at.ensures c.before.before.cell.given.1 in omega (arith, i)
 
 evaluate-add-next : (t : ℕ) → evaluate-lts.Need-overflow-add-next (evaluate-of t) (evaluate-at t) evaluate.Post
 evaluate-add-next t c =
     let a = c.before.before.before.before.before.before.before.args in
     let ws = a.cells.now in
     let s = state a.nodes.now a.links.now a.values.now in
-    let i = read-inside ws (ringN ws 0) a.n s a.at a.depth c.before.before.before.before.if1.false c.before.before.before.Cell-at.ensures c.before.cell2.given.1 in omega (arith, i)
+    let i = read_inside ws (ring_n ws 0) a.n s a.at a.depth c.before.before.before.before.if1.false c.before.before.before.Cell-at.ensures c.before.cell2.given.1 in omega (arith, i)
 
 evaluate-add-evaluate-two : (t : ℕ) → evaluate-lts.Need-overflow-add-evaluate-two (evaluate-of t) (evaluate-at t) evaluate.Post
 evaluate-add-evaluate-two t c =
     let a = c.before.before.before.before.before.before.before.before.before.before.args in
     let ws = a.cells.now in
     let s = state a.nodes.now a.links.now a.values.now in
-    let i = two-inside ws (ringN ws 0) a.n s a.at a.depth c.before.before.before.before.before.before.before.if1.false c.before.before.before.before.before.before.Cell-at.ensures c.before.before.before.before.cell3.given.1 in omega (arith, i)
+    let i = two_inside ws (ring_n ws 0) a.n s a.at a.depth c.before.before.before.before.before.before.before.if1.false c.before.before.before.before.before.before.Cell-at.ensures c.before.before.before.before.cell3.given.1 in omega (arith, i)
 
 evaluate-add-evaluate-choose : (t : ℕ) → evaluate-lts.Need-overflow-add-evaluate-choose (evaluate-of t) (evaluate-at t) evaluate.Post
 evaluate-add-evaluate-choose t c =
     let a = c.before.before.before.before.before.before.before.before.before.args in
     let ws = a.cells.now in
     let s = state a.nodes.now a.links.now a.values.now in
-    let i = choose-inside ws (ringN ws 0) a.n s a.at a.depth c.before.before.before.before.before.before.if1.false c.before.before.before.before.before.Cell-at.ensures c.before.before.before.enum_told.given.1 in omega (arith, i)
+    let i = choose_inside ws (ring_n ws 0) a.n s a.at a.depth c.before.before.before.before.before.before.if1.false c.before.before.before.before.before.Cell-at.ensures c.before.before.before.enum_told.given.1 in omega (arith, i)
 
 evaluate-returns-2 : (t : ℕ) → evaluate-lts.Need-returns-2 (evaluate-of t) (evaluate-at t) evaluate.Post
 evaluate-returns-2 t c k h =
@@ -557,105 +557,105 @@ evaluate-returns-2 t c k h =
     let ws = a.cells.now in
     let s = state a.nodes.now a.links.now a.values.now in
     let v : to_z w64 (of_z w64 c.before.before.cell.given.0.0) ≡ c.before.before.cell.given.0.0 = to_z-of_z (search rules) in
-    worked-constant ws (ringN ws k) a.n s a.at a.depth c.before.before.before.before.before.if1.false c.before.before.before.before.Cell-at.ensures c.before.before.cell.given.1 (c.of.ensures ∙ ap value v)
+    worked_constant ws (ring_n ws k) a.n s a.at a.depth c.before.before.before.before.before.if1.false c.before.before.before.before.Cell-at.ensures c.before.before.cell.given.1 (c.of.ensures ∙ ap value v)
 
 evaluate-returns-3 : (t : ℕ) → evaluate-lts.Need-returns-3 (evaluate-of t) (evaluate-at t) evaluate.Post
 evaluate-returns-3 t c k h =
     let a = c.before.before.before.before.before.before.before.before.before.before.before.before.before.before.before.before.args in
     let ws = a.cells.now in
     let s = state a.nodes.now a.links.now a.values.now in
-    worked-read ws (ringN ws k) a.n s a.at a.depth c.before.before.before.before.before.before.before.before.before.before.before.before.before.if1.false c.before.before.before.before.before.before.before.before.before.before.before.before.Cell-at.ensures _ c.before.before.before.before.before.before.before.before.before.before.cell2.given.1 (c.before.before.before.before.before.read-for.ensures k h)
+    worked_read ws (ring_n ws k) a.n s a.at a.depth c.before.before.before.before.before.before.before.before.before.before.before.before.before.if1.false c.before.before.before.before.before.before.before.before.before.before.before.before.Cell-at.ensures _ c.before.before.before.before.before.before.before.before.before.before.cell2.given.1 (c.before.before.before.before.before.read-for.ensures k h)
 
 evaluate-returns-4 : (t : ℕ) → evaluate-lts.Need-returns-4 (evaluate-of t) (evaluate-at t) evaluate.Post
 evaluate-returns-4 t c k h =
     let a = c.before.before.before.before.before.before.before.before.before.before.before.before.before.before.before.before.args in
     let ws = a.cells.now in
     let s = state a.nodes.now a.links.now a.values.now in
-    worked-two ws (ringN ws k) a.n s a.at a.depth c.before.before.before.before.before.before.before.before.before.before.before.before.before.if1.false c.before.before.before.before.before.before.before.before.before.before.before.before.Cell-at.ensures c.before.before.before.before.before.before.before.before.before.before.cell3.given.1 (c.before.before.before.before.before.evaluate-two.ensures k h)
+    worked_two ws (ring_n ws k) a.n s a.at a.depth c.before.before.before.before.before.before.before.before.before.before.before.before.before.if1.false c.before.before.before.before.before.before.before.before.before.before.before.before.Cell-at.ensures c.before.before.before.before.before.before.before.before.before.before.cell3.given.1 (c.before.before.before.before.before.evaluate-two.ensures k h)
 
 evaluate-returns-5 : (t : ℕ) → evaluate-lts.Need-returns-5 (evaluate-of t) (evaluate-at t) evaluate.Post
 evaluate-returns-5 t c k h =
     let a = c.before.before.before.before.before.before.before.before.before.before.before.before.before.before.before.args in
     let ws = a.cells.now in
     let s = state a.nodes.now a.links.now a.values.now in
-    worked-choose ws (ringN ws k) a.n s a.at a.depth c.before.before.before.before.before.before.before.before.before.before.before.before.if1.false c.before.before.before.before.before.before.before.before.before.before.before.Cell-at.ensures c.before.before.before.before.before.before.before.before.before.enum_told.given.1 (c.before.before.before.before.before.evaluate-choose.ensures k h)
+    worked_choose ws (ring_n ws k) a.n s a.at a.depth c.before.before.before.before.before.before.before.before.before.before.before.before.if1.false c.before.before.before.before.before.before.before.before.before.before.before.Cell-at.ensures c.before.before.before.before.before.before.before.before.before.enum_told.given.1 (c.before.before.before.before.before.evaluate-choose.ensures k h)
 
 evaluate-returns-6 : (t : ℕ) → evaluate-lts.Need-returns-6 (evaluate-of t) (evaluate-at t) evaluate.Post
 evaluate-returns-6 t c k h =
     let a = c.before.before.before.before.before.before.before.args in
     let ws = a.cells.now in
     let s = state a.nodes.now a.links.now a.values.now in
-    worked-bad ws (ringN ws k) a.n s a.at a.depth c.before.before.before.before.if1.false c.before.before.before.Cell-at.ensures c.before.enum-told2.given.1 c.nothing2.ensures.0 c.nothing2.ensures.1
+    worked_bad ws (ring_n ws k) a.n s a.at a.depth c.before.before.before.before.if1.false c.before.before.before.Cell-at.ensures c.before.enum-told2.given.1 c.nothing2.ensures.0 c.nothing2.ensures.1
 
 evaluate-choose-returns : (t : ℕ) → evaluate-choose-lts.Need-returns (evaluate-choose-of t) (evaluate-choose-at t) evaluate-choose.Post
 evaluate-choose-returns t c k h =
     let a = c.before.before.before.before.before.before.before.before.before.before.before.before.before.before.before.before.before.before.before.before.before.before.before.before.args in
     let ws = a.cells.now in
     let s = state a.nodes.now a.links.now a.values.now in
-    choose-third (evaluatedBy ws (ringN ws k) a.n a.depth) s a.at ws _ (c.before.before.before.before.before.before.before.before.before.before.before.before.before.before.before.before.before.before.evaluate.ensures k h) c.before.before.before.before.before.before.before.before.before.before.before.is_zero.ensures _ c.before.before.before.before.before.before.before.before.before.before.if1.true c.before.before.before.before.before.before.end.ensures (c.before.before.before.before.before.evaluate2.ensures k h)
+    choose_third (evaluated_by ws (ring_n ws k) a.n a.depth) s a.at ws _ (c.before.before.before.before.before.before.before.before.before.before.before.before.before.before.before.before.before.before.evaluate.ensures k h) c.before.before.before.before.before.before.before.before.before.before.before.is_zero.ensures _ c.before.before.before.before.before.before.before.before.before.before.if1.true c.before.before.before.before.before.before.end.ensures (c.before.before.before.before.before.evaluate2.ensures k h)
 
 evaluate-choose-returns-2 : (t : ℕ) → evaluate-choose-lts.Need-returns-2 (evaluate-choose-of t) (evaluate-choose-at t) evaluate-choose.Post
 evaluate-choose-returns-2 t c k h =
     let a = c.before.before.before.before.before.before.before.before.before.before.before.before.before.before.before.before.before.before.before.before.before.before.before.before.before.args in
     let ws = a.cells.now in
     let s = state a.nodes.now a.links.now a.values.now in
-    choose-second (evaluatedBy ws (ringN ws k) a.n a.depth) s a.at ws _ (c.before.before.before.before.before.before.before.before.before.before.before.before.before.before.before.before.before.before.before.evaluate.ensures k h) c.before.before.before.before.before.before.before.before.before.before.before.before.is_zero.ensures _ c.before.before.before.before.before.before.before.before.before.before.before.if1.false (c.before.before.before.before.before.before.before.evaluate3.ensures k h) c.end2.ensures
+    choose_second (evaluated_by ws (ring_n ws k) a.n a.depth) s a.at ws _ (c.before.before.before.before.before.before.before.before.before.before.before.before.before.before.before.before.before.before.before.evaluate.ensures k h) c.before.before.before.before.before.before.before.before.before.before.before.before.is_zero.ensures _ c.before.before.before.before.before.before.before.before.before.before.before.if1.false (c.before.before.before.before.before.before.before.evaluate3.ensures k h) c.end2.ensures
 
 evaluate-first-returns : (t : ℕ) → evaluate-first-lts.Need-returns (evaluate-first-of t) (evaluate-first-at t) evaluate-first.Post
 evaluate-first-returns t c k h =
     let a = c.before.before.before.before.before.before.before.before.before.before.before.before.before.before.before.before.before.before.before.before.before.before.before.args in
     let ws = a.cells.now in
     let s = state a.nodes.now a.links.now a.values.now in
-    first-worked ws (ringN ws k) s a.n _ c.before.before.before.before.before.before.before.before.before.before.before.before.before.before.before.before.before.before.before.get.ensures c.before.before.before.before.before.before.before.before.before.before.before.before.before.before.before.before.before.begin-first.ensures (c.before.before.before.before.before.before.before.before.before.before.before.evaluate.ensures k h) (c.before.before.before.finish-first.ensures _)
+    first_worked ws (ring_n ws k) s a.n _ c.before.before.before.before.before.before.before.before.before.before.before.before.before.before.before.before.before.before.before.get.ensures c.before.before.before.before.before.before.before.before.before.before.before.before.before.before.before.before.before.begin-first.ensures (c.before.before.before.before.before.before.before.before.before.before.before.evaluate.ensures k h) (c.before.before.before.finish-first.ensures _)
 
 evaluate-two-returns : (t : ℕ) → evaluate-two-lts.Need-returns (evaluate-two-of t) (evaluate-two-at t) evaluate-two.Post
 evaluate-two-returns t c k h =
     let a = c.before.before.before.before.before.before.before.before.before.before.before.before.before.before.before.before.before.before.before.before.before.args in
     let ws = a.cells.now in
     let s = state a.nodes.now a.links.now a.values.now in
-    two-worked (evaluatedBy ws (ringN ws k) a.n a.depth) s a.at a.op _ _ (c.before.before.before.before.before.before.before.before.before.before.before.before.before.before.before.evaluate.ensures k h) (c.before.before.before.before.before.before.evaluate2.ensures k h) c.apply.ensures
+    two_worked (evaluated_by ws (ring_n ws k) a.n a.depth) s a.at a.op _ _ (c.before.before.before.before.before.before.before.before.before.before.before.before.before.before.before.evaluate.ensures k h) (c.before.before.before.before.before.before.evaluate2.ensures k h) c.apply.ensures
 
 read-for-returns : (t : ℕ) → read-for-lts.Need-returns (read-for-of t) (read-for-at t) read-for.Post
 read-for-returns t c k h =
     let a = c.before.before.before.before.before.before.before.before.before.before.before.before.before.before.before.before.before.before.before.before.before.before.before.before.before.args in
     let ws = a.cells.now in
     let s = state a.nodes.now a.links.now a.values.now in
-    read_lower (ringN ws k) a.n s a.m c.before.before.before.before.before.before.before.before.before.before.before.before.before.before.before.before.before.before.before.before.before.before.rank.ensures c.before.before.before.before.before.before.before.before.before.before.before.before.before.before.before.before.before.before.before.before.before.rank2.ensures _ _ _ c.before.before.before.before.before.before.before.before.before.before.before.before.before.before.before.before.before.before.before.before.if1.true (lower-refresh ws s a.m c.before.before.before.before.before.before.before.before.before.before.before.before.before.before.before.before.refresh.ensures k (omega (arith, c.before.before.before.before.before.before.before.before.before.before.before.before.before.before.before.before.before.before.before.before.before.before.rank.ensures, c.before.before.before.before.before.before.before.before.before.before.before.before.before.before.before.before.before.before.before.before.before.rank2.ensures, c.before.before.before.before.before.before.before.before.before.before.before.before.before.before.before.before.before.before.before.before.if1.true, h))) c.before.before.before.before.before.before.before.cycle.ensures c.before.before.before.before.before.before.link.ensures c.current.ensures
+    read_lower (ring_n ws k) a.n s a.m c.before.before.before.before.before.before.before.before.before.before.before.before.before.before.before.before.before.before.before.before.before.before.rank.ensures c.before.before.before.before.before.before.before.before.before.before.before.before.before.before.before.before.before.before.before.before.before.rank2.ensures _ _ _ c.before.before.before.before.before.before.before.before.before.before.before.before.before.before.before.before.before.before.before.before.if1.true (lower_refresh ws s a.m c.before.before.before.before.before.before.before.before.before.before.before.before.before.before.before.before.refresh.ensures k (omega (arith, c.before.before.before.before.before.before.before.before.before.before.before.before.before.before.before.before.before.before.before.before.before.before.rank.ensures, c.before.before.before.before.before.before.before.before.before.before.before.before.before.before.before.before.before.before.before.before.before.rank2.ensures, c.before.before.before.before.before.before.before.before.before.before.before.before.before.before.before.before.before.before.before.before.if1.true, h))) c.before.before.before.before.before.before.before.cycle.ensures c.before.before.before.before.before.before.link.ensures c.current.ensures
 
 read-for-returns-2 : (t : ℕ) → read-for-lts.Need-returns-2 (read-for-of t) (read-for-at t) read-for.Post
 read-for-returns-2 t c k h =
     let a = c.before.before.before.before.before.before.args in
     let ws = a.cells.now in
     let s = state a.nodes.now a.links.now a.values.now in
-    read-not (ringN ws k) a.n s a.m c.before.before.before.rank.ensures c.before.before.rank2.ensures c.before.if1.false c.of.ensures
+    read_not (ring_n ws k) a.n s a.m c.before.before.before.rank.ensures c.before.before.rank2.ensures c.before.if1.false c.of.ensures
 
 refresh-returns : (t : ℕ) → refresh-lts.Need-returns (refresh-of t) (refresh-at t) refresh.Post
 refresh-returns t c k h =
     let a = c.before.before.before.before.before.before.before.before.before.before.before.before.args in
     let ws = a.cells.now in
     let s = state a.nodes.now a.links.now a.values.now in
-    refreshed-signal ws (ringN ws k) s a.n c.before.before.before.before.before.before.before.before.get.ensures c.before.before.before.before.before.before.before.if1.true c.before.before.before.refresh-signal.ensures
+    refreshed_signal_lem ws (ring_n ws k) s a.n c.before.before.before.before.before.before.before.before.get.ensures c.before.before.before.before.before.before.before.if1.true c.before.before.before.refresh-signal.ensures
 
 refresh-returns-2 : (t : ℕ) → refresh-lts.Need-returns-2 (refresh-of t) (refresh-at t) refresh.Post
 refresh-returns-2 t c k h =
     let a = c.before.before.before.before.before.before.before.before.before.before.before.before.before.before.before.args in
     let ws = a.cells.now in
     let s = state a.nodes.now a.links.now a.values.now in
-    refreshed-computed ws (ringN ws k) s a.n c.before.before.before.before.before.before.before.before.before.before.before.get.ensures c.before.before.before.before.before.before.before.before.before.before.if1.false c.before.before.before.before.before.before.before.before.before.if2.true (c.before.before.before.before.before.refresh-computed.ensures k h)
+    refreshed_computed ws (ring_n ws k) s a.n c.before.before.before.before.before.before.before.before.before.before.before.get.ensures c.before.before.before.before.before.before.before.before.before.before.if1.false c.before.before.before.before.before.before.before.before.before.if2.true (c.before.before.before.before.before.refresh-computed.ensures k h)
 
 refresh-returns-3 : (t : ℕ) → refresh-lts.Need-returns-3 (refresh-of t) (refresh-at t) refresh.Post
 refresh-returns-3 t c k h =
     let a = c.before.before.before.before.before.before.args in
     let ws = a.cells.now in
     let s = state a.nodes.now a.links.now a.values.now in
-    refreshed-other ws (ringN ws k) s a.n c.before.before.get.ensures c.before.if1.false c.if2.false
+    refreshed_other ws (ring_n ws k) s a.n c.before.before.get.ensures c.before.if1.false c.if2.false
 
 refresh-computed-returns : (t : ℕ) → refresh-computed-lts.Need-returns (refresh-computed-of t) (refresh-computed-at t) refresh-computed.Post
 refresh-computed-returns t c k h =
     let a = c.before.before.before.before.before.before.before.before.before.before.before.before.before.before.before.args in
     let ws = a.cells.now in
     let s = state a.nodes.now a.links.now a.values.now in
-    computed-dirty ws (ringN ws k) s a.n c.before.before.before.before.before.before.before.before.before.before.before.flags.ensures c.before.before.before.before.before.before.before.before.before.before.has.ensures c.before.before.before.before.before.before.before.before.before.if1.true (c.before.before.before.before.before.renew.ensures k h)
+    computed_dirty ws (ring_n ws k) s a.n c.before.before.before.before.before.before.before.before.before.before.before.flags.ensures c.before.before.before.before.before.before.before.before.before.before.has.ensures c.before.before.before.before.before.before.before.before.before.if1.true (c.before.before.before.before.before.renew.ensures k h)
 
 refresh-computed-refresh-pending-requires :
     (t : ℕ) → refresh-computed-lts.Need-refresh-pending-requires (refresh-computed-of t) (refresh-computed-at t) refresh-computed.Post
@@ -666,7 +666,7 @@ refresh-computed-returns-2 t c k h =
     let a = c.before.before.before.before.before.before.before.before.before.before.before.before.before.before.before.before.before.args in
     let ws = a.cells.now in
     let s = state a.nodes.now a.links.now a.values.now in
-    computed-pending ws (ringN ws k) s a.n c.before.before.before.before.before.before.before.before.before.before.before.before.before.flags.ensures c.before.before.before.before.before.before.before.before.before.before.before.before.has.ensures c.before.before.before.before.before.before.before.before.before.before.before.if1.false c.before.before.before.before.before.before.before.before.before.before.has2.ensures c.before.before.before.before.before.before.before.before.before.if2.true (c.before.before.before.before.before.refresh-pending.ensures k h)
+    computed_pending ws (ring_n ws k) s a.n c.before.before.before.before.before.before.before.before.before.before.before.before.before.flags.ensures c.before.before.before.before.before.before.before.before.before.before.before.before.has.ensures c.before.before.before.before.before.before.before.before.before.before.before.if1.false c.before.before.before.before.before.before.before.before.before.before.has2.ensures c.before.before.before.before.before.before.before.before.before.if2.true (c.before.before.before.before.before.refresh-pending.ensures k h)
 
 refresh-computed-evaluate-first-requires :
     (t : ℕ) → refresh-computed-lts.Need-evaluate-first-requires (refresh-computed-of t) (refresh-computed-at t) refresh-computed.Post
@@ -677,84 +677,84 @@ refresh-computed-returns-3 t c k h =
     let a = c.before.before.before.before.before.before.before.before.before.before.before.before.before.before.before.before.before.before.before.args in
     let ws = a.cells.now in
     let s = state a.nodes.now a.links.now a.values.now in
-    computed-first ws (ringN ws k) s a.n c.before.before.before.before.before.before.before.before.before.before.before.before.before.before.before.flags.ensures c.before.before.before.before.before.before.before.before.before.before.before.before.before.before.has.ensures c.before.before.before.before.before.before.before.before.before.before.before.before.before.if1.false c.before.before.before.before.before.before.before.before.before.before.before.before.has2.ensures c.before.before.before.before.before.before.before.before.before.before.before.if2.false c.before.before.before.before.before.before.before.before.before.before.is_zero.ensures c.before.before.before.before.before.before.before.before.before.if3.true (c.before.before.before.before.before.evaluate-first.ensures k h)
+    computed_first ws (ring_n ws k) s a.n c.before.before.before.before.before.before.before.before.before.before.before.before.before.before.before.flags.ensures c.before.before.before.before.before.before.before.before.before.before.before.before.before.before.has.ensures c.before.before.before.before.before.before.before.before.before.before.before.before.before.if1.false c.before.before.before.before.before.before.before.before.before.before.before.before.has2.ensures c.before.before.before.before.before.before.before.before.before.before.before.if2.false c.before.before.before.before.before.before.before.before.before.before.is_zero.ensures c.before.before.before.before.before.before.before.before.before.if3.true (c.before.before.before.before.before.evaluate-first.ensures k h)
 
 refresh-computed-returns-4 : (t : ℕ) → refresh-computed-lts.Need-returns-4 (refresh-computed-of t) (refresh-computed-at t) refresh-computed.Post
 refresh-computed-returns-4 t c k h =
     let a = c.before.before.before.before.before.before.before.before.before.before.args in
     let ws = a.cells.now in
     let s = state a.nodes.now a.links.now a.values.now in
-    computed-clean ws (ringN ws k) s a.n c.before.before.before.before.before.before.flags.ensures c.before.before.before.before.before.has.ensures c.before.before.before.before.if1.false c.before.before.before.has2.ensures c.before.before.if2.false c.before.is_zero.ensures c.if3.false
+    computed_clean ws (ring_n ws k) s a.n c.before.before.before.before.before.before.flags.ensures c.before.before.before.before.before.has.ensures c.before.before.before.before.if1.false c.before.before.before.has2.ensures c.before.before.if2.false c.before.is_zero.ensures c.if3.false
 
 refresh-pending-returns : (t : ℕ) → refresh-pending-lts.Need-returns (refresh-pending-of t) (refresh-pending-at t) refresh-pending.Post
 refresh-pending-returns t c k h =
     let a = c.before.before.before.before.before.before.before.before.before.before.before.before.before.before.before.before.before.before.before.before.before.args in
     let ws = a.cells.now in
     let s = state a.nodes.now a.links.now a.values.now in
-    surely-changed ws (ringN ws k) s a.n _ _ (c.before.before.before.before.before.before.before.before.before.before.before.before.before.before.before.check-dirty.ensures k h) c.before.before.before.before.before.before.before.before.before.if1.true (c.before.before.before.before.before.renew.ensures k h)
+    surely_changed ws (ring_n ws k) s a.n _ _ (c.before.before.before.before.before.before.before.before.before.before.before.before.before.before.before.check-dirty.ensures k h) c.before.before.before.before.before.before.before.before.before.if1.true (c.before.before.before.before.before.renew.ensures k h)
 
 refresh-pending-returns-2 : (t : ℕ) → refresh-pending-lts.Need-returns-2 (refresh-pending-of t) (refresh-pending-at t) refresh-pending.Post
 refresh-pending-returns-2 t c k h =
     let a = c.before.before.before.before.before.before.before.before.before.before.before.before.before.before.before.before.before.args in
     let ws = a.cells.now in
     let s = state a.nodes.now a.links.now a.values.now in
-    surely-same ws (ringN ws k) s a.n _ _ (c.before.before.before.before.before.before.before.before.before.before.before.check-dirty.ensures k h) c.before.before.before.before.before.if1.false c.before.before.before.clear.ensures c.before.before.set-flags.ensures
+    surely_same ws (ring_n ws k) s a.n _ _ (c.before.before.before.before.before.before.before.before.before.before.before.check-dirty.ensures k h) c.before.before.before.before.before.if1.false c.before.before.before.clear.ensures c.before.before.set-flags.ensures
 
 renew-returns : (t : ℕ) → renew-lts.Need-returns (renew-of t) (renew-at t) renew.Post
 renew-returns t c k h =
     let a = c.before.before.before.before.before.before.before.before.before.before.before.before.before.before.before.before.before.args in
     let ws = a.cells.now in
     let s = state a.nodes.now a.links.now a.values.now in
-    renew-changed ws (ringN ws k) s a.n _ (c.before.before.before.before.before.before.before.before.before.before.before.update-computed.ensures k h) c.before.before.before.before.before.if1.true c.before.before.wake.ensures
+    renew_changed ws (ring_n ws k) s a.n _ (c.before.before.before.before.before.before.before.before.before.before.before.update-computed.ensures k h) c.before.before.before.before.before.if1.true c.before.before.wake.ensures
 
 renew-returns-2 : (t : ℕ) → renew-lts.Need-returns-2 (renew-of t) (renew-at t) renew.Post
 renew-returns-2 t c k h =
     let a = c.before.before.before.before.before.before.before.before.before.before.before.before.args in
     let ws = a.cells.now in
     let s = state a.nodes.now a.links.now a.values.now in
-    renew-same ws (ringN ws k) s a.n _ (c.before.before.before.before.before.before.update-computed.ensures k h) c.if1.false
+    renew_same ws (ring_n ws k) s a.n _ (c.before.before.before.before.before.before.update-computed.ensures k h) c.if1.false
 
 settle-returns : (t : ℕ) → settle-lts.Need-returns (settle-of t) (settle-at t) settle.Post
 settle-returns t c k h =
     let a = c.before.before.before.before.before.before.before.before.before.before.before.before.before.before.before.before.before.args in
     let ws = a.cells.now in
     let s = state a.nodes.now a.links.now a.values.now in
-    settle-changed ws (ringN ws k) s a.m _ (c.before.before.before.before.before.before.before.before.before.before.before.update.ensures k h) c.before.before.before.before.before.if1.true c.before.before.wake-others.ensures
+    settle_changed ws (ring_n ws k) s a.m _ (c.before.before.before.before.before.before.before.before.before.before.before.update.ensures k h) c.before.before.before.before.before.if1.true c.before.before.wake-others.ensures
 
 settle-returns-2 : (t : ℕ) → settle-lts.Need-returns-2 (settle-of t) (settle-at t) settle.Post
 settle-returns-2 t c k h =
     let a = c.before.before.before.before.before.before.before.before.before.before.before.before.args in
     let ws = a.cells.now in
     let s = state a.nodes.now a.links.now a.values.now in
-    settle-same ws (ringN ws k) s a.m _ (c.before.before.before.before.before.before.update.ensures k h) c.if1.false
+    settle_same ws (ring_n ws k) s a.m _ (c.before.before.before.before.before.before.update.ensures k h) c.if1.false
 
 update-returns : (t : ℕ) → update-lts.Need-returns (update-of t) (update-at t) update.Post
 update-returns t c k h =
     let a = c.before.before.before.before.before.before.before.before.before.before.before.args in
     let ws = a.cells.now in
     let s = state a.nodes.now a.links.now a.values.now in
-    updated-signal ws (ringN ws k) s a.n c.before.before.before.before.before.before.before.get.ensures c.before.before.before.before.before.before.if1.true (c.before.before.before.update-signal.ensures _)
+    updated_the_signal ws (ring_n ws k) s a.n c.before.before.before.before.before.before.before.get.ensures c.before.before.before.before.before.before.if1.true (c.before.before.before.update-signal.ensures _)
 
 update-returns-2 : (t : ℕ) → update-lts.Need-returns-2 (update-of t) (update-at t) update.Post
 update-returns-2 t c k h =
     let a = c.before.before.before.before.before.before.before.before.before.before.before.before.before.before.before.args in
     let ws = a.cells.now in
     let s = state a.nodes.now a.links.now a.values.now in
-    updated-computed ws (ringN ws k) s a.n c.before.before.before.before.before.before.before.before.before.before.before.get.ensures c.before.before.before.before.before.before.before.before.before.before.if1.false c.before.before.before.before.before.before.before.before.before.if2.true (c.before.before.before.before.before.update-computed.ensures k h)
+    updated_computed ws (ring_n ws k) s a.n c.before.before.before.before.before.before.before.before.before.before.before.get.ensures c.before.before.before.before.before.before.before.before.before.before.if1.false c.before.before.before.before.before.before.before.before.before.if2.true (c.before.before.before.before.before.update-computed.ensures k h)
 
 update-returns-3 : (t : ℕ) → update-lts.Need-returns-3 (update-of t) (update-at t) update.Post
 update-returns-3 t c k h =
     let a = c.before.before.before.before.before.before.args in
     let ws = a.cells.now in
     let s = state a.nodes.now a.links.now a.values.now in
-    updated-other ws (ringN ws k) s a.n c.before.before.get.ensures c.before.if1.false c.if2.false
+    updated_other ws (ring_n ws k) s a.n c.before.before.get.ensures c.before.if1.false c.if2.false
 
 update-computed-returns : (t : ℕ) → update-computed-lts.Need-returns (update-computed-of t) (update-computed-at t) update-computed.Post
 update-computed-returns t c k h =
     let a = c.before.before.before.before.before.before.before.before.before.before.before.before.before.before.before.before.before.before.before.before.before.before.before.before.before.before.before.before.before.args in
     let ws = a.cells.now in
     let s = state a.nodes.now a.links.now a.values.now in
-    update-worked ws (ringN ws k) s a.n _ _ c.before.before.before.before.before.before.before.before.before.before.before.before.before.before.before.before.before.before.before.before.before.before.before.before.before.get.ensures (c.before.before.before.before.before.before.before.before.before.before.before.before.before.before.before.before.before.before.before.before.before.before.begin.ensures _) (c.before.before.before.before.before.before.before.before.before.before.before.before.before.before.evaluate.ensures k h) c.before.before.before.before.before.finish.ensures
+    update_worked ws (ring_n ws k) s a.n _ _ c.before.before.before.before.before.before.before.before.before.before.before.before.before.before.before.before.before.before.before.before.before.before.before.before.before.get.ensures (c.before.before.before.before.before.before.before.before.before.before.before.before.before.before.before.before.before.before.before.before.before.before.begin.ensures _) (c.before.before.before.before.before.before.before.before.before.before.before.before.before.before.evaluate.ensures k h) c.before.before.before.before.before.finish.ensures
 
 pub +check-dependency-check-dirty-check-pending-dirty-by-evaluate-evaluate-choose-evaluate-first-evaluate-two-read-for-refresh-refresh-computed-refresh-pending-renew-settle-update-update-computed-spec :
     {M : Type 1} → statement M

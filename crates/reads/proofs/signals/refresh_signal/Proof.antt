@@ -1,5 +1,5 @@
 -- `reads::signals::refresh_signal` meets its contract. Assumes nothing.
-use Rattle.reading.proofs.StepLaws.{signal-changed, signal-same, signal-clean}
+use Rattle.reading.proofs.StepLaws.{signal_changed, signal_same, signal_clean}
 use borrow.Author.Rules.{rules}
 use Rattle.reads.proofs.signals.refresh_signal.Statement.{statement}
 use Rattle.reads.proofs.signals.refresh_signal.Tie as tie
@@ -23,7 +23,7 @@ same-length-2 : tie.Need-same-length-2
 same-length-2 c = search rules
 
 returns : tie.Need-returns
-returns c = signal-changed _ _ c.before.before.before.before.before.before.before.before.before.before.before.before.before.flags.ensures c.before.before.before.before.before.before.before.before.before.before.before.before.has.ensures c.before.before.before.before.before.before.before.before.before.before.before.if1.true _ (c.before.before.before.before.before.before.before.before.update-signal.ensures _) c.before.before.before.before.if2.true c.before.before.wake.ensures
+returns c = signal_changed _ _ c.before.before.before.before.before.before.before.before.before.before.before.before.before.flags.ensures c.before.before.before.before.before.before.before.before.before.before.before.before.has.ensures c.before.before.before.before.before.before.before.before.before.before.before.if1.true _ (c.before.before.before.before.before.before.before.before.update-signal.ensures _) c.before.before.before.before.if2.true c.before.before.wake.ensures
 
 same-length-3 : tie.Need-same-length-3
 same-length-3 c = search rules
@@ -32,13 +32,13 @@ same-length-4 : tie.Need-same-length-4
 same-length-4 c = search rules
 
 returns-2 : tie.Need-returns-2
-returns-2 c = signal-same _ _ c.before.before.before.before.before.before.before.before.before.flags.ensures c.before.before.before.before.before.before.before.before.has.ensures c.before.before.before.before.before.before.before.if1.true _ (c.before.before.before.before.update-signal.ensures _) c.if2.false
+returns-2 c = signal_same _ _ c.before.before.before.before.before.before.before.before.before.flags.ensures c.before.before.before.before.before.before.before.before.has.ensures c.before.before.before.before.before.before.before.if1.true _ (c.before.before.before.before.update-signal.ensures _) c.if2.false
 
 same-length-5 : tie.Need-same-length-5
 same-length-5 c = search rules
 
 returns-3 : tie.Need-returns-3
-returns-3 c = signal-clean _ _ c.before.before.flags.ensures c.before.has.ensures c.if1.false
+returns-3 c = signal_clean _ _ c.before.before.flags.ensures c.before.has.ensures c.if1.false
 
 pub refresh-signal-spec : {M : Type 1} → statement M
 refresh-signal-spec =

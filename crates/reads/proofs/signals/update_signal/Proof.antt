@@ -1,5 +1,5 @@
 -- `reads::signals::update_signal` meets its contract. Assumes nothing.
-use Rattle.reading.specs.Steps.{updatedSignal}
+use Rattle.reading.specs.Steps.{updated_signal}
 use borrow.Author.Rules.{rules}
 use Rattle.reads.proofs.signals.update_signal.Statement.{statement}
 use Rattle.reads.proofs.signals.update_signal.Tie as tie
@@ -26,7 +26,7 @@ same-length-2 : tie.Need-same-length-2
 same-length-2 c = search rules
 
 returns : tie.Need-returns
-unfolding updatedSignal
+unfolding updated_signal
 returns c l = rw (
   ← c.before.before.before.before.before.before.before.before.before.before.set-flags.ensures,
   ← c.before.before.before.before.before.before.current.ensures,

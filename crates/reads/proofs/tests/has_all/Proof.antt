@@ -1,5 +1,5 @@
 -- `reads::tests::has_all` meets its contract. Assumes nothing.
-use Rattle.marking.specs.Fields.{hasOnly}
+use Rattle.marking.specs.Fields.{has_only}
 use borrow.Author.Rules.{rules}
 use Rattle.reads.proofs.tests.has_all.Statement.{statement}
 use Rattle.reads.proofs.tests.has_all.Tie as tie
@@ -11,7 +11,7 @@ same-requires : tie.Need-same-requires
 same-requires c κs = search rules
 
 returns : tie.Need-returns
-unfolding hasOnly
+unfolding has_only
 returns c = rw (
   ← c.before.mask.ensures,
   ← c.same.ensures,

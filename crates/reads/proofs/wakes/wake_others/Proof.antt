@@ -1,5 +1,5 @@
 -- `reads::wakes::wake_others` meets its contract. Assumes nothing.
-use Rattle.reading.specs.Steps.{wokenOthers}
+use Rattle.reading.specs.Steps.{woken_others}
 use borrow.Author.Rules.{rules}
 use Rattle.reads.proofs.wakes.wake_others.Statement.{statement}
 use Rattle.reads.proofs.wakes.wake_others.Tie as tie
@@ -20,7 +20,7 @@ same_length : tie.Need-same-length
 same_length c = search rules
 
 returns : tie.Need-returns
-unfolding wokenOthers
+unfolding woken_others
 returns c = rw (
   ← c.before.before.before.get.ensures,
   ← c.before.before.«open».ensures,
@@ -43,7 +43,7 @@ same-length-2 : tie.Need-same-length-2
 same-length-2 c = search rules
 
 returns-2 : tie.Need-returns-2
-unfolding wokenOthers
+unfolding woken_others
 returns-2 c = rw (
   ← c.before.before.before.before.before.before.before.before.get.ensures,
   ← c.before.before.before.before.before.before.before.«open».ensures,
@@ -60,7 +60,7 @@ same-length-3 : tie.Need-same-length-3
 same-length-3 c = search rules
 
 returns-3 : tie.Need-returns-3
-unfolding wokenOthers
+unfolding woken_others
 returns-3 c = rw (
   ← c.before.before.before.before.before.before.before.before.before.before.before.before.get.ensures,
   ← c.before.before.before.before.before.before.before.before.before.before.before.«open».ensures,

@@ -3,7 +3,7 @@ use mathlib.Core.Path.{◌≡◌, ◌∙◌}
 use mir.Syntax.{w64}
 use mir.Val.{to_z, of_z}
 use mir.Facts.{to_z-of_z}
-use Rattle.refusing.specs.Commands.{commandBy}
+use Rattle.refusing.specs.Commands.{command_by}
 use Rattle.refusing.specs.Asked.{asked}
 use Rattle.refusing.proofs.AskLaws.{asks_nothing}
 use borrow.Author.Rules.{rules}
@@ -38,50 +38,50 @@ makes-requires-5 : tie.Need-makes-requires-5
 makes-requires-5 c κs = search rules
 
 returns : tie.Need-returns
-unfolding asked commandBy
+unfolding asked command_by
 returns c = rw c.before.match.keys1 c.makes.ensures
 
 returns-2 : tie.Need-returns-2
-unfolding asked commandBy
+unfolding asked command_by
 returns-2 c = rw c.before.match.keys2 c.makes2.ensures
 
 returns-3 : tie.Need-returns-3
-unfolding asked commandBy
+unfolding asked command_by
 returns-3 c =
     let a = c.before.before.args.a in
     let v : to_z w64 (of_z w64 a) ≡ a = to_z-of_z (search rules) in
     rw c.before.match.keys3 (rw v at c.makes3.ensures)
 
 returns-4 : tie.Need-returns-4
-unfolding asked commandBy
+unfolding asked command_by
 returns-4 c =
     let a = c.before.before.args.a in
     let v : to_z w64 (of_z w64 a) ≡ a = to_z-of_z (search rules) in
     rw c.before.match.keys4 (rw v at c.makes4.ensures)
 
 returns-5 : tie.Need-returns-5
-unfolding asked commandBy
+unfolding asked command_by
 returns-5 c =
     let a = c.before.before.args.a in
     let v : to_z w64 (of_z w64 a) ≡ a = to_z-of_z (search rules) in
     rw c.before.match.keys5 (rw v at c.names.ensures)
 
 returns-6 : tie.Need-returns-6
-unfolding asked commandBy
+unfolding asked command_by
 returns-6 c =
     let a = c.before.before.args.a in
     let v : to_z w64 (of_z w64 a) ≡ a = to_z-of_z (search rules) in
     rw c.before.match.keys6 (rw v at c.names2.ensures)
 
 returns-7 : tie.Need-returns-7
-unfolding asked commandBy
+unfolding asked command_by
 returns-7 c =
     let a = c.before.before.args.a in
     let v : to_z w64 (of_z w64 a) ≡ a = to_z-of_z (search rules) in
     rw c.before.match.keys7 (rw v at c.names3.ensures)
 
 returns-8 : tie.Need-returns-8
-unfolding asked commandBy
+unfolding asked command_by
 returns-8 c =
     let a = c.before.before.args.a in
     let v : to_z w64 (of_z w64 a) ≡ a = to_z-of_z (search rules) in

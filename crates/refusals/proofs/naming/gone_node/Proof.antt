@@ -3,10 +3,10 @@ use mathlib.Core.Path.{◌≡◌, ap, ◌∙◌}
 use mir.Syntax.{w64}
 use mir.Val.{to_z, of_z}
 use mir.Facts.{to_z-of_z}
-use Rattle.meaning.specs.Refusals.{isGone}
-use Rattle.refusing.proofs.NamingLaws.{or-first, or-second}
-use Rattle.refusing.proofs.AskLaws.{gone-row}
-use Rattle.refusing.specs.Sight.{nodesAlone}
+use Rattle.meaning.specs.Refusals.{is_gone}
+use Rattle.refusing.proofs.NamingLaws.{or_first, or_second}
+use Rattle.refusing.proofs.AskLaws.{gone_row}
+use Rattle.refusing.specs.Sight.{nodes_alone}
 use borrow.Author.Rules.{rules}
 use Rattle.refusals.proofs.naming.gone_node.Statement.{statement}
 use Rattle.refusals.proofs.naming.gone_node.Tie as tie
@@ -24,7 +24,7 @@ returns c =
     let asks_of = c.before.before.before.asks_of in
     let a = c.before.before.before.before.before.args in
     let n : to_z w64 (of_z w64 asks_of.result.node) ≡ asks_of.result.node = to_z-of_z (search rules) in
-    or-first _ _ (rw n at gone-named.ensures) if1.true ∙ gone-row (nodesAlone a.nodes.now) a.words.now asks_of.result asks_of.ensures
+    or_first _ _ (rw n at gone-named.ensures) if1.true ∙ gone_row (nodes_alone a.nodes.now) a.words.now asks_of.result asks_of.ensures
 
 is-gone-requires : tie.Need-is-gone-requires
 is-gone-requires c κs = search rules
@@ -38,7 +38,7 @@ returns-2 c =
     let a = c.before.before.before.before.before.before.before.args in
     let n : to_z w64 (of_z w64 asks_of.result.node) ≡ asks_of.result.node = to_z-of_z (search rules) in
     let o : to_z w64 (of_z w64 asks_of.result.owner) ≡ asks_of.result.owner = to_z-of_z (search rules) in
-    or-second _ _ (rw n at gone-named.ensures) if1.false (is-gone.ensures ∙ ap (isGone (nodesAlone a.nodes.now)) o) ∙ gone-row (nodesAlone a.nodes.now) a.words.now asks_of.result asks_of.ensures
+    or_second _ _ (rw n at gone-named.ensures) if1.false (is-gone.ensures ∙ ap (is_gone (nodes_alone a.nodes.now)) o) ∙ gone_row (nodes_alone a.nodes.now) a.words.now asks_of.result asks_of.ensures
 
 pub gone-node-spec : {M : Type 1} → statement M
 gone-node-spec =

@@ -1,6 +1,6 @@
 -- `refusals::naming::is_a` meets its contract. Assumes nothing.
 use mir.Facts.{to_z-of_z}
-use Rattle.refusing.proofs.NamingLaws.{a-none, a-past, a-kind}
+use Rattle.refusing.proofs.NamingLaws.{a_none, a_past, a_kind}
 use Rattle.refusing.specs.Asked.{taken}
 use borrow.Author.Rules.{rules}
 use Rattle.refusals.proofs.naming.is_a.Statement.{statement}
@@ -21,7 +21,7 @@ returns c =
     let natural = c.before.before.natural in
     let a = c.before.before.before.before.args in
     let fits = c.before.before.before.before.ranges in
-    a-none a.nodes.now a.n (rw (to_z-of_z fits.n) at natural.ensures) (taken a.t) enum_told.given.1
+    a_none a.nodes.now a.n (rw (to_z-of_z fits.n) at natural.ensures) (taken a.t) enum_told.given.1
 
 at-requires : tie.Need-at-requires
 at-requires c κs = search rules
@@ -34,7 +34,7 @@ returns-2 c =
     let natural = c.before.before.before.before.before.natural in
     let a = c.before.before.before.before.before.before.before.args in
     let fits = c.before.before.before.before.before.before.before.ranges in
-    a-past a.nodes.now a.n (rw (to_z-of_z fits.n) at natural.ensures) (taken a.t) _ k.given.1 at.ensures if1.true
+    a_past a.nodes.now a.n (rw (to_z-of_z fits.n) at natural.ensures) (taken a.t) _ k.given.1 at.ensures if1.true
 
 get-requires : tie.Need-get-requires
 get-requires c κs = search rules
@@ -52,7 +52,7 @@ returns-3 c =
     let natural = c.before.before.before.before.before.before.before.natural in
     let a = c.before.before.before.before.before.before.before.before.before.args in
     let fits = c.before.before.before.before.before.before.before.before.before.ranges in
-    a-kind a.nodes.now a.n (rw (to_z-of_z fits.n) at natural.ensures) (taken a.t) _ k.given.1 at.ensures if1.false get.ensures takes-kind.ensures
+    a_kind a.nodes.now a.n (rw (to_z-of_z fits.n) at natural.ensures) (taken a.t) _ k.given.1 at.ensures if1.false get.ensures takes-kind.ensures
 
 pub is-a-spec : {M : Type 1} → statement M
 is-a-spec =

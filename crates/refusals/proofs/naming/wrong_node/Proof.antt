@@ -3,9 +3,9 @@ use mathlib.Core.Path.{◌≡◌, ◌∙◌}
 use mir.Syntax.{w64}
 use mir.Val.{to_z, of_z}
 use mir.Facts.{to_z-of_z}
-use Rattle.refusing.proofs.NamingLaws.{or-first, or-second}
+use Rattle.refusing.proofs.NamingLaws.{or_first, or_second}
 use Rattle.refusing.proofs.AskLaws.{wrong_row}
-use Rattle.refusing.specs.Sight.{nodesAlone}
+use Rattle.refusing.specs.Sight.{nodes_alone}
 use borrow.Author.Rules.{rules}
 use Rattle.refusals.proofs.naming.wrong_node.Statement.{statement}
 use Rattle.refusals.proofs.naming.wrong_node.Tie as tie
@@ -23,7 +23,7 @@ returns c =
     let asks_of = c.before.before.before.asks_of in
     let a = c.before.before.before.before.before.args in
     let n : to_z w64 (of_z w64 asks_of.result.node) ≡ asks_of.result.node = to_z-of_z (search rules) in
-    or-first _ _ (rw n at wrong-named.ensures) if1.true ∙ wrong_row (nodesAlone a.nodes.now) a.words.now asks_of.result asks_of.ensures
+    or_first _ _ (rw n at wrong-named.ensures) if1.true ∙ wrong_row (nodes_alone a.nodes.now) a.words.now asks_of.result asks_of.ensures
 
 wrong-owner-requires : tie.Need-wrong-owner-requires
 wrong-owner-requires c κs = search rules
@@ -37,7 +37,7 @@ returns-2 c =
     let a = c.before.before.before.before.before.before.before.args in
     let n : to_z w64 (of_z w64 asks_of.result.node) ≡ asks_of.result.node = to_z-of_z (search rules) in
     let o : to_z w64 (of_z w64 asks_of.result.owner) ≡ asks_of.result.owner = to_z-of_z (search rules) in
-    or-second _ _ (rw n at wrong-named.ensures) if1.false (rw o at wrong-owner.ensures) ∙ wrong_row (nodesAlone a.nodes.now) a.words.now asks_of.result asks_of.ensures
+    or_second _ _ (rw n at wrong-named.ensures) if1.false (rw o at wrong-owner.ensures) ∙ wrong_row (nodes_alone a.nodes.now) a.words.now asks_of.result asks_of.ensures
 
 pub wrong-node-spec : {M : Type 1} → statement M
 wrong-node-spec =

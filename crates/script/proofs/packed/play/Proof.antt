@@ -1,6 +1,6 @@
 -- `script::packed::play` meets its contract. Assumes nothing.
-use Rattle.script.specs.Packed.{playOn}
-use Rattle.script.proofs.PackedLaws.{play-as, play-stop, play-turn, play-next}
+use Rattle.script.specs.Packed.{play_on}
+use Rattle.script.proofs.PackedLaws.{play_as, play_stop, play_turn, play_next}
 use borrow.Author.Rules.{rules}
 use Rattle.script.proofs.packed.play.Statement.{statement}
 use Rattle.script.proofs.packed.play.Tie as tie
@@ -15,7 +15,7 @@ enum-known-n : tie.Need-enum-known-n
 enum-known-n c = search rules
 
 returns : tie.Need-returns
-returns c = play-stop _ _ _ _ _ _ c.before.before.before.before.decide.ensures c.before.before.n.given.1 c.if1.true
+returns c = play_stop _ _ _ _ _ _ c.before.before.before.before.decide.ensures c.before.before.n.given.1 c.if1.true
 
 sub-turn : tie.Need-overflow-sub-turn
 sub-turn c = search rules
@@ -48,8 +48,8 @@ enum-told-2 : tie.Need-enum-told-2
 enum-told-2 c = search rules
 
 returns-2 : tie.Need-returns-2
-unfolding playOn
-returns-2 c = play-as _ _ _ _ _ _ c.before.before.decide.ensures _ c.enum_told.given.1
+unfolding play_on
+returns-2 c = play_as _ _ _ _ _ _ c.before.before.decide.ensures _ c.enum_told.given.1
 
 -- What `turn` and `empty` were lent keeps its length, and nothing after them changes it; the search for that is dear.
 same_length : tie.Need-same-length
@@ -74,7 +74,7 @@ same-length-7 : tie.Need-same-length-7
 same-length-7 c = c.before.before.before.before.before.before.before.before.before.before.before.turn.auto.1.1.1.1.1.1.0
 
 returns-3 : tie.Need-returns-3
-returns-3 c = play-turn _ _ _ _ _ _ c.before.before.before.before.before.before.before.before.before.before.before.before.before.before.before.before.before.before.before.before.before.before.before.before.decide.ensures c.before.before.before.before.before.before.before.before.before.before.before.before.before.before.before.before.before.before.before.before.before.before.n.given.1 c.before.before.before.before.before.before.before.before.before.before.before.before.before.before.before.before.before.before.before.before.if1.false c.step-of.ensures c.before.before.before.before.before.before.before.before.before.before.before.turn.ensures
+returns-3 c = play_turn _ _ _ _ _ _ c.before.before.before.before.before.before.before.before.before.before.before.before.before.before.before.before.before.before.before.before.before.before.before.before.decide.ensures c.before.before.before.before.before.before.before.before.before.before.before.before.before.before.before.before.before.before.before.before.before.before.n.given.1 c.before.before.before.before.before.before.before.before.before.before.before.before.before.before.before.before.before.before.before.before.if1.false c.step_of_table.ensures c.before.before.before.before.before.before.before.before.before.before.before.turn.ensures
 
 same-length-8 : tie.Need-same-length-8
 same-length-8 c = c.before.before.before.before.before.before.empty.auto.0
@@ -89,19 +89,19 @@ same-length-11 : tie.Need-same-length-11
 same-length-11 c = c.before.before.before.before.before.before.empty.auto.1.1.1.0
 
 returns-4 : tie.Need-returns-4
-returns-4 c = play-next _ _ _ _ _ _ c.before.before.before.before.before.before.before.before.before.before.before.before.before.before.decide.ensures c.before.before.before.before.before.before.before.before.before.before.before.before.used.given.1 c.before.before.before.before.before.before.empty.ensures
+returns-4 c = play_next _ _ _ _ _ _ c.before.before.before.before.before.before.before.before.before.before.before.before.before.before.decide.ensures c.before.before.before.before.before.before.before.before.before.before.before.before.used.given.1 c.before.before.before.before.before.before.empty.ensures
 
 returns-5 : tie.Need-returns-5
-unfolding playOn
-returns-5 c = play-as _ _ _ _ _ _ c.before.before.before.decide.ensures _ c.before.used2.given.1
+unfolding play_on
+returns-5 c = play_as _ _ _ _ _ _ c.before.before.before.decide.ensures _ c.before.used2.given.1
 
 returns-6 : tie.Need-returns-6
-unfolding playOn
-returns-6 c = play-as _ _ _ _ _ _ c.before.before.before.decide.ensures _ c.before.used3.given.1
+unfolding play_on
+returns-6 c = play_as _ _ _ _ _ _ c.before.before.before.decide.ensures _ c.before.used3.given.1
 
 returns-7 : tie.Need-returns-7
-unfolding playOn
-returns-7 c = play-as _ _ _ _ _ _ c.before.before.decide.ensures _ c.enum-told2.given.1
+unfolding play_on
+returns-7 c = play_as _ _ _ _ _ _ c.before.before.decide.ensures _ c.enum-told2.given.1
 
 pub play-spec : {M : Type 1} → statement M
 play-spec =

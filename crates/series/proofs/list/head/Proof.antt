@@ -3,7 +3,7 @@ use mathlib.Core.Path.{◌≡◌}
 use mir.Syntax.{w64}
 use mir.Val.{to_z, of_z}
 use mir.Facts.{to_z-of_z}
-use Rattle.sequencing.proofs.ListLaws.{none_left, is_below, is-inside, is-beyond}
+use Rattle.sequencing.proofs.ListLaws.{none_left, is_below, is_inside, is_beyond}
 use borrow.Author.Rules.{rules}
 use Rattle.series.proofs.list.head.Statement.{statement}
 use Rattle.series.proofs.list.head.Tie as tie
@@ -31,12 +31,12 @@ returns-2 c =
 returns-3 : tie.Need-returns-3
 returns-3 c =
     let p : to_z w64 (of_z w64 c.before.before.before.before.before.signed-at.result) ≡ c.before.before.before.before.before.signed-at.result = to_z-of_z (search rules) in
-    is-inside _ c.before.before.before.before.before.signed-at.ensures (rw p at c.before.before.before.before.natural.ensures) c.before.before.before.before.before.before.if1.false _ c.before.before.k.given.1 c.if2.true
+    is_inside _ c.before.before.before.before.before.signed-at.ensures (rw p at c.before.before.before.before.natural.ensures) c.before.before.before.before.before.before.if1.false _ c.before.before.k.given.1 c.if2.true
 
 returns-4 : tie.Need-returns-4
 returns-4 c =
     let p : to_z w64 (of_z w64 c.before.before.before.before.before.signed-at.result) ≡ c.before.before.before.before.before.signed-at.result = to_z-of_z (search rules) in
-    is-beyond _ c.before.before.before.before.before.signed-at.ensures (rw p at c.before.before.before.before.natural.ensures) c.before.before.before.before.before.before.if1.false _ c.before.before.k.given.1 c.if2.false
+    is_beyond _ c.before.before.before.before.before.signed-at.ensures (rw p at c.before.before.before.before.natural.ensures) c.before.before.before.before.before.before.if1.false _ c.before.before.k.given.1 c.if2.false
 
 pub head_spec : {M : Type 1} → statement M
 head_spec =

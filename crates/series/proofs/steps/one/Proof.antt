@@ -4,7 +4,7 @@ use mir.Syntax.{w64}
 use mir.Val.{to_z, of_z}
 use mir.Facts.{to_z-of_z}
 use Rattle.sequencing.proofs.ListLaws.{words_inside}
-use Rattle.sequencing.proofs.StepLaws.{at-end, at-bad, no_room, step-rows, step-done}
+use Rattle.sequencing.proofs.StepLaws.{at_end, at_bad, no_room_left, step_rows, step_done}
 use borrow.Author.Rules.{rules}
 use Rattle.series.proofs.steps.one.Statement.{statement}
 use Rattle.series.proofs.steps.one.Tie as tie
@@ -22,7 +22,7 @@ enum-known-n : tie.Need-enum-known-n
 enum-known-n c = search rules
 
 returns : tie.Need-returns
-returns c = no_room _ _ _ _ _ _ _ _ c.before.before.before.before.head.ensures _ c.before.before.n.given.1 c.if1.true
+returns c = no_room_left _ _ _ _ _ _ _ _ c.before.before.before.before.head.ensures _ c.before.before.n.given.1 c.if1.true
 
 add-end : tie.Need-overflow-add-end
 add-end c = let h = words_inside c.before.before.before.before.before.before.before.args.list.now _ (sym c.before.before.before.before.head.ensures ∙ c.before.before.n.given.1) in search rules
@@ -55,16 +55,16 @@ same-length-5 : tie.Need-same-length-5
 same-length-5 c = search rules
 
 returns-2 : tie.Need-returns-2
-returns-2 c = let a = c.before.before.before.before.before.before.before.before.before.before.before.before.before.before.before.before.before.before.before.before.before.before.args in step-rows a.formed a.nodes.now a.links.now a.values.now a.cells.now a.log.now a.list.now a.answers.now c.before.before.before.before.before.before.before.before.before.before.before.before.before.before.before.before.before.before.before.head.ensures _ c.before.before.before.before.before.before.before.before.before.before.before.before.before.before.before.before.before.n.given.1 c.before.before.before.before.before.before.before.before.before.before.before.before.before.before.before.if1.false c.before.before.before.before.before.before.before.before.command-on.ensures c.if2.true
+returns-2 c = let a = c.before.before.before.before.before.before.before.before.before.before.before.before.before.before.before.before.before.before.before.before.before.before.args in step_rows a.formed a.nodes.now a.links.now a.values.now a.cells.now a.log.now a.list.now a.answers.now c.before.before.before.before.before.before.before.before.before.before.before.before.before.before.before.before.before.before.before.head.ensures _ c.before.before.before.before.before.before.before.before.before.before.before.before.before.before.before.before.before.n.given.1 c.before.before.before.before.before.before.before.before.before.before.before.before.before.before.before.if1.false c.before.before.before.before.before.before.before.before.command-on.ensures c.if2.true
 
 put-answer-requires : tie.Need-put-answer-requires
 put-answer-requires c κs = search rules
 
 returns-3 : tie.Need-returns-3
-returns-3 c = at-end _ _ _ _ _ _ _ _ c.before.before.head.ensures c.enum_told.given.1
+returns-3 c = at_end _ _ _ _ _ _ _ _ c.before.before.head.ensures c.enum_told.given.1
 
 returns-4 : tie.Need-returns-4
-returns-4 c = at-bad _ _ _ _ _ _ _ _ c.before.before.head.ensures c.enum-told2.given.1
+returns-4 c = at_bad _ _ _ _ _ _ _ _ c.before.before.head.ensures c.enum-told2.given.1
 
 same-length-6 : tie.Need-same-length-6
 same-length-6 c = search rules
@@ -88,7 +88,7 @@ returns-5 : tie.Need-returns-5
 returns-5 c =
     let a = c.before.before.before.before.before.before.before.before.before.before.before.before.before.before.before.before.before.before.before.before.before.before.before.before.before.before.args in
     let p : to_z w64 (of_z w64 c.before.before.before.before.before.before.before.before.before.before.before.before.command-on.result.value) ≡ c.before.before.before.before.before.before.before.before.before.before.before.before.command-on.result.value = to_z-of_z (search rules) in
-    step-done a.formed a.nodes.now a.links.now a.values.now a.cells.now a.log.now a.list.now a.answers.now c.before.before.before.before.before.before.before.before.before.before.before.before.before.before.before.before.before.before.before.before.before.before.before.head.ensures _ c.before.before.before.before.before.before.before.before.before.before.before.before.before.before.before.before.before.before.before.before.before.n.given.1 c.before.before.before.before.before.before.before.before.before.before.before.before.before.before.before.before.before.before.before.if1.false c.before.before.before.before.before.before.before.before.before.before.before.before.command-on.ensures c.before.before.before.before.if2.false (rw p at c.before.put-answer.ensures)
+    step_done a.formed a.nodes.now a.links.now a.values.now a.cells.now a.log.now a.list.now a.answers.now c.before.before.before.before.before.before.before.before.before.before.before.before.before.before.before.before.before.before.before.before.before.before.before.head.ensures _ c.before.before.before.before.before.before.before.before.before.before.before.before.before.before.before.before.before.before.before.before.before.n.given.1 c.before.before.before.before.before.before.before.before.before.before.before.before.before.before.before.before.before.before.before.if1.false c.before.before.before.before.before.before.before.before.before.before.before.before.command-on.ensures c.before.before.before.before.if2.false (rw p at c.before.put_answer.ensures)
 
 pub one_spec : {M : Type 1} → statement M
 one_spec =

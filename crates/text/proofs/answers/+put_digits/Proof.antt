@@ -1,7 +1,7 @@
 -- The cycle of calls `text::answers::put_digits` meets its contracts. Assumes nothing.
 use mathlib.Core.Path.{◌∙◌}
 use native.Mathlib.Omega.{arith}
-use Rattle.spelling.proofs.AnswerLaws.{digits-none, digits-one, digits_more}
+use Rattle.spelling.proofs.AnswerLaws.{digits_none, digits_one, digits_more}
 use borrow.Author.Rules.{rules}
 use Prim.Native.Nat.{ℕ, ◌<◌}
 use borrow.Fn.Kinds.{In}
@@ -33,7 +33,7 @@ put-digits-returns : (t : ℕ) → put-digits-lts.Need-returns (
   put-digits-below t,
   put-digits.Post,
 ) (put-digits-at t) put-digits.Post
-put-digits-returns t c = digits-none _ _ _ c.if1.true
+put-digits-returns t c = digits_none _ _ _ c.if1.true
 
 put-digits-glyph-of-requires : (t : ℕ) → put-digits-lts.Need-glyph-of-requires (
   glyph-of-reads.Asked,
@@ -73,7 +73,7 @@ put-digits-returns-2 : (t : ℕ) → put-digits-lts.Need-returns-2 (
   put-digits-below t,
   put-digits.Post,
 ) (put-digits-at t) put-digits.Post
-put-digits-returns-2 t c = c.before.before.push.ensures ∙ (rw c.before.before.before.glyph-of.ensures (digits-one _ _ _ c.before.before.before.before.before.before.if1.false c.before.before.before.before.before.if2.true))
+put-digits-returns-2 t c = c.before.before.push.ensures ∙ (rw c.before.before.before.glyph-of.ensures (digits_one _ _ _ c.before.before.before.before.before.before.if1.false c.before.before.before.before.before.if2.true))
 
 put-digits-sub-put-digits : (t : ℕ) → put-digits-lts.Need-overflow-sub-put-digits (
   glyph-of-reads.Asked,

@@ -1,5 +1,5 @@
 -- `text::answers::push` meets its contract. Assumes nothing.
-use Rattle.spelling.proofs.BufferLaws.{push-in, push-out}
+use Rattle.spelling.proofs.BufferLaws.{push_in, push_out}
 use borrow.Author.Rules.{rules}
 use Rattle.text.proofs.answers.push.Statement.{statement}
 use Rattle.text.proofs.answers.push.Tie as tie
@@ -14,10 +14,10 @@ same_length : tie.Need-same-length
 same_length c = search rules
 
 returns : tie.Need-returns
-returns c = push-in _ _ _ c.if1.true
+returns c = push_in _ _ _ c.if1.true
 
 returns-2 : tie.Need-returns-2
-returns-2 c = push-out _ _ _ c.if1.false
+returns-2 c = push_out _ _ _ c.if1.false
 
 pub push_spec : {M : Type 1} → statement M
 push_spec = tie.close (tie.spec slice-write-out add-result same_length returns returns-2)

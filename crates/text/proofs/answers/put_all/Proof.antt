@@ -4,7 +4,7 @@ use Prim.Native.Nat.{◌-◌, ◌≤◌}
 use native.Mathlib.Omega.{arith}
 use lib.ListN.{length, drop}
 use Rattle.spelling.specs.Buffers.{buffer, put}
-use Rattle.spelling.proofs.BufferLaws.{put-more, put-end}
+use Rattle.spelling.proofs.BufferLaws.{put_more, put_end}
 use borrow.Author.Rules.{rules}
 use Rattle.text.proofs.answers.put_all.Statement.{statement}
 use Rattle.text.proofs.answers.put_all.Tie as tie
@@ -31,13 +31,13 @@ loop-less : tie.Need-loop-smaller invariant-loop decreases-loop
 loop-less c = search rules
 
 loop-again : tie.Need-loop-preserved invariant-loop decreases-loop
-loop-again c = (c.before.before.before.before.before.before.loop.invariant.0 ∙ put-more _ _ _ 0 c.before.before.before.before.before.loop-test.true c.before.before.push.ensures, c.before.before.push.auto.0 ∙ c.before.before.before.before.before.before.loop.invariant.1, omega arith)
+loop-again c = (c.before.before.before.before.before.before.loop.invariant.0 ∙ put_more _ _ _ 0 c.before.before.before.before.before.loop-test.true c.before.before.push.ensures, c.before.before.push.auto.0 ∙ c.before.before.before.before.before.before.loop.invariant.1, omega arith)
 
 same_length : tie.Need-same-length invariant-loop decreases-loop
 same_length c = c.before.loop.invariant.1
 
 returns : tie.Need-returns invariant-loop decreases-loop
-returns c = sym (c.before.loop.invariant.0 ∙ put-end _ _ _ c.loop-test.false)
+returns c = sym (c.before.loop.invariant.0 ∙ put_end _ _ _ c.loop-test.false)
 
 pub put-all-spec : {M : Type 1} → statement M
 put-all-spec =

@@ -1,7 +1,7 @@
 -- `text::answers::put_answer` meets its contract. Assumes nothing.
 use mathlib.Core.Path.{◌∙◌}
 use mir.Facts.{to_z-of_z}
-use Rattle.spelling.proofs.AnswerLaws.{put-answer}
+use Rattle.spelling.proofs.AnswerLaws.{put_answer}
 use borrow.Author.Rules.{rules}
 use Rattle.text.proofs.answers.put_answer.Statement.{statement}
 use Rattle.text.proofs.answers.put_answer.Tie as tie
@@ -31,7 +31,7 @@ same_length : tie.Need-same-length
 same_length c = search rules
 
 returns : tie.Need-returns
-returns c = c.before.before.put-rows.ensures ∙ (rw (c.before.before.before.before.before.before.put-count2.ensures, c.before.before.before.before.before.before.before.before.before.before.before.put-line.ensures, c.before.before.before.before.before.before.before.before.before.before.before.before.before.before.before.before.put_count.ensures, to_z-of_z c.before.before.before.before.before.before.before.before.before.before.before.before.before.before.before.before.before.before.before.before.ranges.value) (put-answer _ _ _ _ _))
+returns c = c.before.before.put-rows.ensures ∙ (rw (c.before.before.before.before.before.before.put-count2.ensures, c.before.before.before.before.before.before.before.before.before.before.before.put_line.ensures, c.before.before.before.before.before.before.before.before.before.before.before.before.before.before.before.before.put_count.ensures, to_z-of_z c.before.before.before.before.before.before.before.before.before.before.before.before.before.before.before.before.before.before.before.before.ranges.value) (put_answer _ _ _ _ _))
 
 pub put-answer-spec : {M : Type 1} → statement M
 put-answer-spec =

@@ -1,6 +1,6 @@
 -- `text::answers::put_count` meets its contract. Assumes nothing.
 use mathlib.Core.Path.{◌∙◌}
-use Rattle.spelling.proofs.AnswerLaws.{put-line}
+use Rattle.spelling.proofs.AnswerLaws.{put_line}
 use borrow.Author.Rules.{rules}
 use Rattle.text.proofs.answers.put_count.Statement.{statement}
 use Rattle.text.proofs.answers.put_count.Tie as tie
@@ -18,7 +18,7 @@ same_length : tie.Need-same-length
 same_length c = search rules
 
 returns : tie.Need-returns
-returns c = c.before.before.push.ensures ∙ (rw (c.before.before.before.before.before.before.put-natural.ensures, c.before.before.before.before.before.before.before.before.before.before.put_all_lem.ensures) (put-line _ _ _))
+returns c = c.before.before.push.ensures ∙ (rw (c.before.before.before.before.before.before.put-natural.ensures, c.before.before.before.before.before.before.before.before.before.before.put_all_lem.ensures) (put_line _ _ _))
 
 pub put-count-spec : {M : Type 1} → statement M
 put-count-spec =

@@ -1,8 +1,8 @@
 -- `text::answers::put_integer` meets its contract. Assumes nothing.
 use mathlib.Core.Path.{refl, ◌∙◌}
 use native.Mathlib.Omega.{arith}
-use Rattle.spelling.proofs.NumberLaws.{gap-fits, gap-plain, gap_word, under_low, below-zero, plain_fits, plain-is}
-use Rattle.spelling.proofs.AnswerLaws.{put-negative}
+use Rattle.spelling.proofs.NumberLaws.{gap_fits, gap_plain, gap_word, under_low, below_zero, plain_fits, plain_is}
+use Rattle.spelling.proofs.AnswerLaws.{put_negative}
 use borrow.Author.Rules.{rules}
 use Rattle.text.proofs.answers.put_integer.Statement.{statement}
 use Rattle.text.proofs.answers.put_integer.Tie as tie
@@ -11,10 +11,10 @@ push-requires : tie.Need-push-requires
 push-requires c κs = search rules
 
 sub-n : tie.Need-overflow-sub-n
-sub-n c = gap-fits c.before.before.before.before.before.before.args.v c.before.before.before.before.before.before.ranges.v c.before.before.before.before.if1.true
+sub-n c = gap_fits c.before.before.before.before.before.before.args.v c.before.before.before.before.before.before.ranges.v c.before.before.before.before.if1.true
 
 cast-n : tie.Need-overflow-cast-n
-cast-n c = gap-plain c.before.before.before.before.before.before.args.v c.before.before.before.before.before.before.ranges.v c.before.before.before.before.if1.true
+cast-n c = gap_plain c.before.before.before.before.before.before.args.v c.before.before.before.before.before.before.ranges.v c.before.before.before.before.if1.true
 
 add-put-natural : tie.Need-overflow-add-put-natural
 add-put-natural c = rw (gap_word c.before.before.before.before.before.before.before.args.v c.before.before.before.before.before.before.before.ranges.v c.before.before.before.before.before.if1.true) (omega (arith, under_low c.before.before.before.before.before.before.before.args.v c.before.before.before.before.before.before.before.ranges.v c.before.before.before.before.before.if1.true))
@@ -26,7 +26,7 @@ same_length : tie.Need-same-length
 same_length c = search rules
 
 returns : tie.Need-returns
-returns c = c.before.before.put-natural.ensures ∙ (rw (c.before.before.before.before.before.before.push.ensures, gap_word c.before.before.before.before.before.before.before.before.before.before.args.v c.before.before.before.before.before.before.before.before.before.before.ranges.v c.before.before.before.before.before.before.before.before.if1.true) (put-negative _ c.before.before.before.before.before.before.before.before.before.before.args.v (below-zero c.before.before.before.before.before.before.before.before.before.before.args.v c.before.before.before.before.before.before.before.before.before.before.ranges.v c.before.before.before.before.before.before.before.before.if1.true)))
+returns c = c.before.before.put-natural.ensures ∙ (rw (c.before.before.before.before.before.before.push.ensures, gap_word c.before.before.before.before.before.before.before.before.before.before.args.v c.before.before.before.before.before.before.before.before.before.before.ranges.v c.before.before.before.before.before.before.before.before.if1.true) (put_negative _ c.before.before.before.before.before.before.before.before.before.before.args.v (below_zero c.before.before.before.before.before.before.before.before.before.before.args.v c.before.before.before.before.before.before.before.before.before.before.ranges.v c.before.before.before.before.before.before.before.before.if1.true)))
 
 cast-put-natural : tie.Need-overflow-cast-put-natural
 cast-put-natural c = plain_fits c.before.before.before.args.v c.before.before.before.ranges.v c.before.if1.false
@@ -38,7 +38,7 @@ same-length-2 : tie.Need-same-length-2
 same-length-2 c = search rules
 
 returns-2 : tie.Need-returns-2
-returns-2 c = c.before.before.put-natural2.ensures ∙ (rw (← plain-is c.before.before.before.before.before.before.args.v c.before.before.before.before.before.before.ranges.v c.before.before.before.before.if1.false) refl)
+returns-2 c = c.before.before.put-natural2.ensures ∙ (rw (← plain_is c.before.before.before.before.before.before.args.v c.before.before.before.before.before.before.ranges.v c.before.before.before.before.if1.false) refl)
 
 pub put-integer-spec : {M : Type 1} → statement M
 put-integer-spec =

@@ -1,7 +1,7 @@
 -- `text::answers::put_line` meets its contract. Assumes nothing.
 use mathlib.Core.Path.{◌∙◌}
 use mir.Facts.{to_z-of_z}
-use Rattle.spelling.proofs.AnswerLaws.{put-line}
+use Rattle.spelling.proofs.AnswerLaws.{put_line}
 use borrow.Author.Rules.{rules}
 use Rattle.text.proofs.answers.put_line.Statement.{statement}
 use Rattle.text.proofs.answers.put_line.Tie as tie
@@ -19,7 +19,7 @@ same_length : tie.Need-same-length
 same_length c = search rules
 
 returns : tie.Need-returns
-returns c = c.before.before.push.ensures ∙ (rw (c.before.before.before.before.before.before.put-integer.ensures, c.before.before.before.before.before.before.before.before.before.before.put_all_lem.ensures, to_z-of_z c.before.before.before.before.before.before.before.before.before.before.before.before.before.before.ranges.v) (put-line _ _ _))
+returns c = c.before.before.push.ensures ∙ (rw (c.before.before.before.before.before.before.put-integer.ensures, c.before.before.before.before.before.before.before.before.before.before.put_all_lem.ensures, to_z-of_z c.before.before.before.before.before.before.before.before.before.before.before.before.before.before.ranges.v) (put_line _ _ _))
 
 pub put-line-spec : {M : Type 1} → statement M
 put-line-spec =

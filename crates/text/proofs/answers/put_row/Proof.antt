@@ -1,7 +1,7 @@
 -- `text::answers::put_row` meets its contract. Assumes nothing.
 use mathlib.Core.Path.{◌∙◌}
 use mir.Facts.{to_z-of_z}
-use Rattle.spelling.proofs.AnswerLaws.{put-row}
+use Rattle.spelling.proofs.AnswerLaws.{put_row}
 use borrow.Author.Rules.{rules}
 use Rattle.text.proofs.answers.put_row.Statement.{statement}
 use Rattle.text.proofs.answers.put_row.Tie as tie
@@ -28,7 +28,7 @@ same_length : tie.Need-same-length
 same_length c = search rules
 
 returns : tie.Need-returns
-returns c = c.before.before.push2.ensures ∙ (rw (c.before.before.before.before.before.before.put-integer2.ensures, c.before.before.before.before.before.before.before.before.before.before.push.ensures, c.before.before.before.before.before.before.before.before.before.before.before.before.before.before.put-integer.ensures, c.before.before.before.before.before.before.before.before.before.before.before.before.before.before.before.before.before.before.put_all_lem.ensures, to_z-of_z c.before.before.before.before.before.before.before.before.before.before.before.before.before.before.before.before.before.before.before.before.before.before.ranges.e, to_z-of_z c.before.before.before.before.before.before.before.before.before.before.before.before.before.before.before.before.before.before.before.before.before.before.ranges.v) (put-row _ _ _))
+returns c = c.before.before.push2.ensures ∙ (rw (c.before.before.before.before.before.before.put-integer2.ensures, c.before.before.before.before.before.before.before.before.before.before.push.ensures, c.before.before.before.before.before.before.before.before.before.before.before.before.before.before.put-integer.ensures, c.before.before.before.before.before.before.before.before.before.before.before.before.before.before.before.before.before.before.put_all_lem.ensures, to_z-of_z c.before.before.before.before.before.before.before.before.before.before.before.before.before.before.before.before.before.before.before.before.before.before.ranges.e, to_z-of_z c.before.before.before.before.before.before.before.before.before.before.before.before.before.before.before.before.before.before.before.before.before.before.ranges.v) (put_row _ _ _))
 
 pub put-row-spec : {M : Type 1} → statement M
 put-row-spec =

@@ -11,7 +11,7 @@ use native.Mathlib.Omega.{arith}
 use lib.ListN.{length, drop}
 use Rattle.spelling.specs.Buffers.{buffer, put}
 use Rattle.spelling.specs.Answers.{rows}
-use Rattle.spelling.proofs.AnswerLaws.{put-rows-none, put-rows-short, put-rows-more}
+use Rattle.spelling.proofs.AnswerLaws.{put_rows_none, put_rows_short, put_rows_more}
 use borrow.Author.Rules.{rules}
 use Rattle.text.proofs.answers.put_rows.Statement.{statement}
 use Rattle.text.proofs.answers.put_rows.Tie as tie
@@ -32,7 +32,7 @@ same_length : tie.Need-same-length invariant-loop decreases-loop
 same_length c = c.before.before.loop.invariant.1
 
 returns : tie.Need-returns invariant-loop decreases-loop
-returns c = sym (c.before.before.loop.invariant.0 ∙ put-rows-short _ _ _ _ c.before.before.loop.invariant.2 c.if1.true)
+returns c = sym (c.before.before.loop.invariant.0 ∙ put_rows_short _ _ _ _ c.before.before.loop.invariant.2 c.if1.true)
 
 mul-put-row : tie.Need-overflow-mul-put-row invariant-loop decreases-loop
 mul-put-row c = search rules
@@ -62,13 +62,13 @@ loop-less : tie.Need-loop-smaller invariant-loop decreases-loop
 loop-less c = search rules
 
 loop-again : tie.Need-loop-preserved invariant-loop decreases-loop
-loop-again c = let p : to_z w64 (of_z w64 (get_or c.before.before.before.before.before.before.before.before.before.before.args.log.now c.before.before.before.before.before.before.before.before.loop.i (pos 0))) ≡ get_or c.before.before.before.before.before.before.before.before.before.before.args.log.now c.before.before.before.before.before.before.before.before.loop.i (pos 0) = to_z-of_z (search rules) in let q : to_z w64 (of_z w64 (get_or c.before.before.before.before.before.before.before.before.before.before.args.log.now (c.before.before.before.before.before.before.before.before.loop.i + 1) (pos 0))) ≡ get_or c.before.before.before.before.before.before.before.before.before.before.args.log.now (c.before.before.before.before.before.before.before.before.loop.i + 1) (pos 0) = to_z-of_z (search rules) in (c.before.before.before.before.before.before.before.before.loop.invariant.0 ∙ put-rows-more (buffer c.before.before.before.before.before.before.before.before.loop.out c.before.before.before.before.before.before.before.before.loop.to) c.before.before.before.before.before.before.before.before.loop.left c.before.before.before.before.before.before.before.before.before.before.args.log.now c.before.before.before.before.before.before.before.before.loop.i c.before.before.before.before.before.before.before.loop-test.true c.before.before.before.before.before.before.if1.false (rw (p, q) at c.before.before.put-row.ensures), c.before.before.put-row.auto.0 ∙ c.before.before.before.before.before.before.before.before.loop.invariant.1, omega arith)
+loop-again c = let p : to_z w64 (of_z w64 (get_or c.before.before.before.before.before.before.before.before.before.before.args.log.now c.before.before.before.before.before.before.before.before.loop.i (pos 0))) ≡ get_or c.before.before.before.before.before.before.before.before.before.before.args.log.now c.before.before.before.before.before.before.before.before.loop.i (pos 0) = to_z-of_z (search rules) in let q : to_z w64 (of_z w64 (get_or c.before.before.before.before.before.before.before.before.before.before.args.log.now (c.before.before.before.before.before.before.before.before.loop.i + 1) (pos 0))) ≡ get_or c.before.before.before.before.before.before.before.before.before.before.args.log.now (c.before.before.before.before.before.before.before.before.loop.i + 1) (pos 0) = to_z-of_z (search rules) in (c.before.before.before.before.before.before.before.before.loop.invariant.0 ∙ put_rows_more (buffer c.before.before.before.before.before.before.before.before.loop.out c.before.before.before.before.before.before.before.before.loop.to) c.before.before.before.before.before.before.before.before.loop.left c.before.before.before.before.before.before.before.before.before.before.args.log.now c.before.before.before.before.before.before.before.before.loop.i c.before.before.before.before.before.before.before.loop-test.true c.before.before.before.before.before.before.if1.false (rw (p, q) at c.before.before.put_row.ensures), c.before.before.put_row.auto.0 ∙ c.before.before.before.before.before.before.before.before.loop.invariant.1, omega arith)
 
 same-length-2 : tie.Need-same-length-2 invariant-loop decreases-loop
 same-length-2 c = c.before.loop.invariant.1
 
 returns-2 : tie.Need-returns-2 invariant-loop decreases-loop
-returns-2 c = sym (c.before.loop.invariant.0 ∙ put-rows-none (buffer c.before.loop.out c.before.loop.to) c.before.loop.left c.before.before.before.args.log.now c.before.loop.i c.loop-test.false)
+returns-2 c = sym (c.before.loop.invariant.0 ∙ put_rows_none (buffer c.before.loop.out c.before.loop.to) c.before.loop.left c.before.before.before.args.log.now c.before.loop.i c.loop-test.false)
 
 pub put-rows-spec : {M : Type 1} → statement M
 put-rows-spec =

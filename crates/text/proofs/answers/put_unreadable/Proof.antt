@@ -1,5 +1,5 @@
 -- `text::answers::put_unreadable` meets its contract. Assumes nothing.
-use Rattle.spelling.specs.Answers.{unreadableAnswer}
+use Rattle.spelling.specs.Answers.{unreadable_answer}
 use borrow.Author.Rules.{rules}
 use Rattle.text.proofs.answers.put_unreadable.Statement.{statement}
 use Rattle.text.proofs.answers.put_unreadable.Tie as tie
@@ -14,8 +14,8 @@ same_length : tie.Need-same-length
 same_length c = search rules
 
 returns : tie.Need-returns
-unfolding unreadableAnswer
-returns c = c.before.before.put-answer.ensures
+unfolding unreadable_answer
+returns c = c.before.before.put_answer.ensures
 
 pub put-unreadable-spec : {M : Type 1} → statement M
 put-unreadable-spec =

@@ -1,18 +1,18 @@
 -- `text::lines::count_of` meets its contract. Assumes nothing.
-use Rattle.spelling.proofs.LineLaws.{next-inside}
+use Rattle.spelling.proofs.LineLaws.{next_inside}
 use mathlib.Core.Path.{◌≡◌, refl, sym, ◌∙◌}
 use Prim.Native.Nat.{◌-◌, ◌≤◌}
 use native.Mathlib.Omega.{arith}
 use lib.ListN.{length, drop}
-use Rattle.spelling.specs.Lines.{pieces, eachSpelled}
-use Rattle.spelling.specs.Pairs.{countFrom}
-use Rattle.spelling.proofs.LineLaws.{piece_inside, count-fault, count-last, count_next, count-end}
+use Rattle.spelling.specs.Lines.{pieces, each_spelled}
+use Rattle.spelling.specs.Pairs.{count_from}
+use Rattle.spelling.proofs.LineLaws.{piece_inside, count_fault, count_last, count_next, count_end_lem}
 use borrow.Author.Rules.{rules}
 use Rattle.text.proofs.lines.count_of.Statement.{statement}
 use Rattle.text.proofs.lines.count_of.Tie as tie
 
 abbrev invariant-loop : tie.invariant-loop
-invariant-loop s n₀ at₀ n at = (countFrom 0 (eachSpelled (pieces 32 s)) ≡ countFrom n (eachSpelled (pieces 32 (drop at s)))) × (n ≤ at) × (at ≤ length s)
+invariant-loop s n₀ at₀ n at = (count_from 0 (each_spelled (pieces 32 s)) ≡ count_from n (each_spelled (pieces 32 (drop at s)))) × (n ≤ at) × (at ≤ length s)
 
 abbrev decreases-loop : tie.decreases-loop
 decreases-loop s n₀ at₀ n at = length s - at
@@ -51,28 +51,28 @@ enum_told : tie.Need-enum-told invariant-loop decreases-loop
 enum_told c = search rules
 
 returns : tie.Need-returns invariant-loop decreases-loop
-returns c = count-fault c.before.before.before.before.before.before.before.before.before.args.s.now c.before.before.before.before.before.before.before.loop.at c.before.before.before.before.first.ensures _ c.before.before.number.ensures c.enum_told.given.1 ∙ sym c.before.before.before.before.before.before.before.loop.invariant.0
+returns c = count_fault c.before.before.before.before.before.before.before.before.before.args.s.now c.before.before.before.before.before.before.before.loop.at c.before.before.before.before.first.ensures _ c.before.before.number.ensures c.enum_told.given.1 ∙ sym c.before.before.before.before.before.before.before.loop.invariant.0
 
 add-n : tie.Need-overflow-add-n invariant-loop decreases-loop
 add-n c = search rules
 
 returns-2 : tie.Need-returns-2 invariant-loop decreases-loop
-returns-2 c = count-last c.before.before.before.before.before.before.before.before.before.before.before.args.s.now c.before.before.before.before.before.before.before.before.before.loop.at c.before.before.before.before.before.before.first.ensures _ c.before.before.before.before.number.ensures _ c.before.before.z.given.1 c.if1.true ∙ sym c.before.before.before.before.before.before.before.before.before.loop.invariant.0
+returns-2 c = count_last c.before.before.before.before.before.before.before.before.before.before.before.args.s.now c.before.before.before.before.before.before.before.before.before.loop.at c.before.before.before.before.before.before.first.ensures _ c.before.before.before.before.number.ensures _ c.before.before.z.given.1 c.if1.true ∙ sym c.before.before.before.before.before.before.before.before.before.loop.invariant.0
 
 add_at : tie.Need-overflow-add-at invariant-loop decreases-loop
-add_at c = let h = next-inside c.before.before.before.before.before.before.before.before.before.before.before.args.s.now c.before.before.before.before.before.before.before.before.before.loop.at c.before.before.before.before.before.before.first.ensures c.if1.false in omega arith
+add_at c = let h = next_inside c.before.before.before.before.before.before.before.before.before.before.before.args.s.now c.before.before.before.before.before.before.before.before.before.loop.at c.before.before.before.before.before.before.first.ensures c.if1.false in omega arith
 
 add-at-2 : tie.Need-overflow-add-at-2 invariant-loop decreases-loop
-add-at-2 c = let h = next-inside c.before.before.before.before.before.before.before.before.before.before.before.args.s.now c.before.before.before.before.before.before.before.before.before.loop.at c.before.before.before.before.before.before.first.ensures c.if1.false in omega arith
+add-at-2 c = let h = next_inside c.before.before.before.before.before.before.before.before.before.before.before.args.s.now c.before.before.before.before.before.before.before.before.before.loop.at c.before.before.before.before.before.before.first.ensures c.if1.false in omega arith
 
 loop-less : tie.Need-loop-smaller invariant-loop decreases-loop
-loop-less c = let h = next-inside c.before.before.before.before.before.before.before.before.before.before.before.args.s.now c.before.before.before.before.before.before.before.before.before.loop.at c.before.before.before.before.before.before.first.ensures c.if1.false in omega arith
+loop-less c = let h = next_inside c.before.before.before.before.before.before.before.before.before.before.before.args.s.now c.before.before.before.before.before.before.before.before.before.loop.at c.before.before.before.before.before.before.first.ensures c.if1.false in omega arith
 
 loop-again : tie.Need-loop-preserved invariant-loop decreases-loop
-loop-again c = let h = next-inside c.before.before.before.before.before.before.before.before.before.before.before.args.s.now c.before.before.before.before.before.before.before.before.before.loop.at c.before.before.before.before.before.before.first.ensures c.if1.false in (c.before.before.before.before.before.before.before.before.before.loop.invariant.0 ∙ count_next c.before.before.before.before.before.before.before.before.before.before.before.args.s.now c.before.before.before.before.before.before.before.before.before.loop.at c.before.before.before.before.before.before.first.ensures _ c.before.before.before.before.number.ensures _ c.before.before.z.given.1 c.if1.false, omega arith, omega arith)
+loop-again c = let h = next_inside c.before.before.before.before.before.before.before.before.before.before.before.args.s.now c.before.before.before.before.before.before.before.before.before.loop.at c.before.before.before.before.before.before.first.ensures c.if1.false in (c.before.before.before.before.before.before.before.before.before.loop.invariant.0 ∙ count_next c.before.before.before.before.before.before.before.before.before.before.before.args.s.now c.before.before.before.before.before.before.before.before.before.loop.at c.before.before.before.before.before.before.first.ensures _ c.before.before.before.before.number.ensures _ c.before.before.z.given.1 c.if1.false, omega arith, omega arith)
 
 returns-3 : tie.Need-returns-3 invariant-loop decreases-loop
-returns-3 c = count-end _ _ _ c.loop-test.false ∙ sym c.before.loop.invariant.0
+returns-3 c = count_end_lem _ _ _ c.loop-test.false ∙ sym c.before.loop.invariant.0
 
 pub count-of-spec : {M : Type 1} → statement M
 count-of-spec =

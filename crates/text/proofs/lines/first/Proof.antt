@@ -4,7 +4,7 @@ use Prim.Native.Nat.{◌+◌, ◌-◌, ◌≤◌}
 use native.Mathlib.Omega.{arith}
 use lib.ListN.{length, drop}
 use Rattle.spelling.specs.Lines.{first_of}
-use Rattle.spelling.proofs.LineLaws.{first-here, first_more, first-end}
+use Rattle.spelling.proofs.LineLaws.{first_here, first_more, first_end}
 use borrow.Author.Rules.{rules}
 use Rattle.text.proofs.lines.first.Statement.{statement}
 use Rattle.text.proofs.lines.first.Tie as tie
@@ -22,7 +22,7 @@ shared-slice-read-if1 : tie.Need-shared-slice-read-if1 invariant-loop decreases-
 shared-slice-read-if1 c = search rules
 
 returns : tie.Need-returns invariant-loop decreases-loop
-returns c = omega (arith, first-here c.before.before.before.before.args.b c.before.before.before.before.args.s.now c.before.before.before.loop.i c.before.before.loop-test.true c.if1.true)
+returns c = omega (arith, first_here c.before.before.before.before.args.b c.before.before.before.before.args.s.now c.before.before.before.loop.i c.before.before.loop-test.true c.if1.true)
 
 add-i : tie.Need-overflow-add-i invariant-loop decreases-loop
 add-i c = search rules
@@ -34,7 +34,7 @@ loop-again : tie.Need-loop-preserved invariant-loop decreases-loop
 loop-again c = (omega (arith, first_more c.before.before.before.before.args.b c.before.before.before.before.args.s.now c.before.before.before.loop.i c.before.before.loop-test.true c.if1.false), omega arith)
 
 returns-2 : tie.Need-returns-2 invariant-loop decreases-loop
-returns-2 c = omega (arith, first-end c.before.before.args.b c.before.before.args.s.now c.before.loop.i c.loop-test.false)
+returns-2 c = omega (arith, first_end c.before.before.args.b c.before.before.args.s.now c.before.loop.i c.loop-test.false)
 
 pub first_spec : {M : Type 1} → statement M
 first_spec =

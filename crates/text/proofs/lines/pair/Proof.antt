@@ -6,10 +6,10 @@ use mir.Syntax.{w64}
 use mir.Val.{to_z, of_z}
 use mir.Facts.{to_z-of_z}
 use native.Mathlib.Numerals.{add-one}
-use Rattle.spelling.specs.Lines.{commandLine}
-use Rattle.spelling.proofs.LineLaws.{front-is, rest-is}
-use Rattle.spelling.proofs.Streams.{ends, at-inside}
-use Rattle.spelling.proofs.PairLaws.{pair-long, pair-open, pair-no-command, pair-second}
+use Rattle.spelling.specs.Lines.{command_line}
+use Rattle.spelling.proofs.LineLaws.{front_is, rest_is}
+use Rattle.spelling.proofs.Streams.{ends, at_inside}
+use Rattle.spelling.proofs.PairLaws.{pair_long, pair_open, pair_no_command, pair_second}
 use borrow.Author.Rules.{rules}
 use Rattle.text.proofs.lines.pair.Statement.{statement}
 use Rattle.text.proofs.lines.pair.Tie as tie
@@ -33,7 +33,7 @@ part-command-line-start : tie.Need-slice-bounds-command-line-start
 part-command-line-start c = search rules
 
 part-command-line-end : tie.Need-slice-bounds-command-line-end
-part-command-line-end c = let h : c.before.i.given.0.0 < length c.before.before.before.before.before.args.window.now = at-inside c.before.before.before.before.before.args.window.now (ends c.before.before.before.before.before.args.window.now) _ (sym c.before.before.before.line-end.ensures ∙ c.before.i.given.1) in search rules
+part-command-line-end c = let h : c.before.i.given.0.0 < length c.before.before.before.before.before.args.window.now = at_inside c.before.before.before.before.before.args.window.now (ends c.before.before.before.before.before.args.window.now) _ (sym c.before.before.before.line-end.ensures ∙ c.before.i.given.1) in search rules
 
 command-line-requires : tie.Need-command-line-requires
 command-line-requires c κs = search rules
@@ -45,16 +45,16 @@ enum-told-3 : tie.Need-enum-told-3
 enum-told-3 c = search rules
 
 returns : tie.Need-returns
-returns c = pair-no-command c.before.before.before.before.before.before.before.before.before.args.window.now c.before.before.before.before.before.before.before.before.before.args.words.now c.before.before.before.before.before.before.before.line-end.ensures _ c.before.before.before.before.before.i.given.1 (c.before.before.command-line.ensures ∙ ap commandLine (front-is c.before.before.before.before.before.before.before.before.before.args.window.now c.before.before.before.before.before.i.given.0.0)) c.enum-told3.given.1
+returns c = pair_no_command c.before.before.before.before.before.before.before.before.before.args.window.now c.before.before.before.before.before.before.before.before.before.args.words.now c.before.before.before.before.before.before.before.line-end.ensures _ c.before.before.before.before.before.i.given.1 (c.before.before.command-line.ensures ∙ ap command_line (front_is c.before.before.before.before.before.before.before.before.before.args.window.now c.before.before.before.before.before.i.given.0.0)) c.enum-told3.given.1
 
 add-second : tie.Need-overflow-add-second
-add-second c = let h : c.before.before.before.before.before.before.i.given.0.0 < length c.before.before.before.before.before.before.before.before.before.before.args.window.now = at-inside c.before.before.before.before.before.before.before.before.before.before.args.window.now (ends c.before.before.before.before.before.before.before.before.before.before.args.window.now) _ (sym c.before.before.before.before.before.before.before.before.line-end.ensures ∙ c.before.before.before.before.before.before.i.given.1) in search rules
+add-second c = let h : c.before.before.before.before.before.before.i.given.0.0 < length c.before.before.before.before.before.before.before.before.before.before.args.window.now = at_inside c.before.before.before.before.before.before.before.before.before.before.args.window.now (ends c.before.before.before.before.before.before.before.before.before.before.args.window.now) _ (sym c.before.before.before.before.before.before.before.before.line-end.ensures ∙ c.before.before.before.before.before.before.i.given.1) in search rules
 
 sub-second : tie.Need-overflow-sub-second
-sub-second c = let h : c.before.before.before.before.before.before.i.given.0.0 < length c.before.before.before.before.before.before.before.before.before.before.args.window.now = at-inside c.before.before.before.before.before.before.before.before.before.before.args.window.now (ends c.before.before.before.before.before.before.before.before.before.before.args.window.now) _ (sym c.before.before.before.before.before.before.before.before.line-end.ensures ∙ c.before.before.before.before.before.before.i.given.1) in search rules
+sub-second c = let h : c.before.before.before.before.before.before.i.given.0.0 < length c.before.before.before.before.before.before.before.before.before.before.args.window.now = at_inside c.before.before.before.before.before.before.before.before.before.before.args.window.now (ends c.before.before.before.before.before.before.before.before.before.before.args.window.now) _ (sym c.before.before.before.before.before.before.before.before.line-end.ensures ∙ c.before.before.before.before.before.before.i.given.1) in search rules
 
 part-second-start : tie.Need-slice-bounds-second-start
-part-second-start c = let h : c.before.before.before.before.before.before.i.given.0.0 < length c.before.before.before.before.before.before.before.before.before.before.args.window.now = at-inside c.before.before.before.before.before.before.before.before.before.before.args.window.now (ends c.before.before.before.before.before.before.before.before.before.before.args.window.now) _ (sym c.before.before.before.before.before.before.before.before.line-end.ensures ∙ c.before.before.before.before.before.before.i.given.1) in search rules
+part-second-start c = let h : c.before.before.before.before.before.before.i.given.0.0 < length c.before.before.before.before.before.before.before.before.before.before.args.window.now = at_inside c.before.before.before.before.before.before.before.before.before.before.args.window.now (ends c.before.before.before.before.before.before.before.before.before.before.args.window.now) _ (sym c.before.before.before.before.before.before.before.before.line-end.ensures ∙ c.before.before.before.before.before.before.i.given.1) in search rules
 
 part-second-end : tie.Need-slice-bounds-second-end
 part-second-end c = search rules
@@ -63,16 +63,16 @@ second-requires : tie.Need-second-requires
 second-requires c κs = search rules
 
 returns-2 : tie.Need-returns-2
-returns-2 c = pair-long c.before.before.before.before.args.window.now c.before.before.before.before.args.words.now c.before.before.line-end.ensures c.enum_told.given.1
+returns-2 c = pair_long c.before.before.before.before.args.window.now c.before.before.before.before.args.words.now c.before.before.line-end.ensures c.enum_told.given.1
 
 returns-3 : tie.Need-returns-3
-returns-3 c = pair-open c.before.before.before.before.args.window.now c.before.before.before.before.args.words.now c.before.before.line-end.ensures c.enum-told2.given.1
+returns-3 c = pair_open c.before.before.before.before.args.window.now c.before.before.before.before.args.words.now c.before.before.line-end.ensures c.enum-told2.given.1
 
 same_length : tie.Need-same-length
 same_length c = search rules
 
 returns-4 : tie.Need-returns-4
-returns-4 c = let p : to_z w64 (of_z w64 c.before.before.before.before.before.code.given.0.0) ≡ c.before.before.before.before.before.code.given.0.0 = to_z-of_z (search rules) in pair-second c.before.before.before.before.before.before.before.before.before.before.before.before.before.before.args.window.now c.before.before.before.before.before.before.before.before.before.before.before.before.before.before.args.words.now c.before.before.before.before.before.before.before.before.before.before.before.before.line-end.ensures _ c.before.before.before.before.before.before.before.before.before.before.i.given.1 (c.before.before.before.before.before.before.before.command-line.ensures ∙ ap commandLine (front-is c.before.before.before.before.before.before.before.before.before.before.before.before.before.before.args.window.now c.before.before.before.before.before.before.before.before.before.before.i.given.0.0)) _ c.before.before.before.before.before.code.given.1 (rw (p, rest-is c.before.before.before.before.before.before.before.before.before.before.before.before.before.before.args.window.now (c.before.before.before.before.before.before.before.before.before.before.i.given.0.0 + 1), add-one c.before.before.before.before.before.before.before.before.before.before.i.given.0.0) at c.before.second.ensures)
+returns-4 c = let p : to_z w64 (of_z w64 c.before.before.before.before.before.code.given.0.0) ≡ c.before.before.before.before.before.code.given.0.0 = to_z-of_z (search rules) in pair_second c.before.before.before.before.before.before.before.before.before.before.before.before.before.before.args.window.now c.before.before.before.before.before.before.before.before.before.before.before.before.before.before.args.words.now c.before.before.before.before.before.before.before.before.before.before.before.before.line-end.ensures _ c.before.before.before.before.before.before.before.before.before.before.i.given.1 (c.before.before.before.before.before.before.before.command-line.ensures ∙ ap command_line (front_is c.before.before.before.before.before.before.before.before.before.before.before.before.before.before.args.window.now c.before.before.before.before.before.before.before.before.before.before.i.given.0.0)) _ c.before.before.before.before.before.code.given.1 (rw (p, rest_is c.before.before.before.before.before.before.before.before.before.before.before.before.before.before.args.window.now (c.before.before.before.before.before.before.before.before.before.before.i.given.0.0 + 1), add-one c.before.before.before.before.before.before.before.before.before.before.i.given.0.0) at c.before.second.ensures)
 
 pub pair_spec : {M : Type 1} → statement M
 pair_spec =

@@ -2,7 +2,7 @@
 use mir.Syntax.{w64}
 use mir.Val.{to_z, of_z}
 use mir.Facts.{to_z-of_z}
-use Rattle.spelling.proofs.LineLaws.{next-inside}
+use Rattle.spelling.proofs.LineLaws.{next_inside}
 use mathlib.Core.Path.{◌≡◌, refl, sym, ap, ◌∙◌}
 use Prim.Native.Nat.{suc, ◌-◌, ◌≤◌}
 use native.Mathlib.Omega.{arith}
@@ -10,7 +10,7 @@ use lib.ListN.{length, drop}
 use Rattle.spelling.specs.Lines.{pieces}
 use Rattle.spelling.specs.Pairs.{worths}
 use Rattle.spelling.specs.Buffers.{buffer, put}
-use Rattle.spelling.proofs.LineLaws.{piece_inside, store-last, store-next}
+use Rattle.spelling.proofs.LineLaws.{piece_inside, store_last, store_next}
 use borrow.Author.Rules.{rules}
 use Rattle.text.proofs.lines.store.Statement.{statement}
 use Rattle.text.proofs.lines.store.Tie as tie
@@ -55,19 +55,19 @@ same_length : tie.Need-same-length invariant-loop decreases-loop
 same_length c = c.before.before.push.auto.0 ∙ c.before.before.before.before.before.before.before.before.before.loop.invariant.1
 
 returns : tie.Need-returns invariant-loop decreases-loop
-returns c = let p : to_z w64 (of_z w64 c.before.before.before.worth-of.result) ≡ c.before.before.before.worth-of.result = to_z-of_z (search rules) in ap (λ b. b.held) ((rw p at c.before.before.push.ensures) ∙ store-last c.before.before.before.before.before.before.before.before.before.before.before.args.s.now c.before.before.before.before.before.before.before.before.before.loop.at c.before.before.before.before.before.before.first.ensures _ c.before.before.before.worth-of.ensures c.if1.true ∙ sym c.before.before.before.before.before.before.before.before.before.loop.invariant.0)
+returns c = let p : to_z w64 (of_z w64 c.before.before.before.worth-of.result) ≡ c.before.before.before.worth-of.result = to_z-of_z (search rules) in ap (λ b. b.held) ((rw p at c.before.before.push.ensures) ∙ store_last c.before.before.before.before.before.before.before.before.before.before.before.args.s.now c.before.before.before.before.before.before.before.before.before.loop.at c.before.before.before.before.before.before.first.ensures _ c.before.before.before.worth-of.ensures c.if1.true ∙ sym c.before.before.before.before.before.before.before.before.before.loop.invariant.0)
 
 add_at : tie.Need-overflow-add-at invariant-loop decreases-loop
-add_at c = let h = next-inside c.before.before.before.before.before.before.before.before.before.before.before.args.s.now c.before.before.before.before.before.before.before.before.before.loop.at c.before.before.before.before.before.before.first.ensures c.if1.false in omega arith
+add_at c = let h = next_inside c.before.before.before.before.before.before.before.before.before.before.before.args.s.now c.before.before.before.before.before.before.before.before.before.loop.at c.before.before.before.before.before.before.first.ensures c.if1.false in omega arith
 
 add-at-2 : tie.Need-overflow-add-at-2 invariant-loop decreases-loop
-add-at-2 c = let h = next-inside c.before.before.before.before.before.before.before.before.before.before.before.args.s.now c.before.before.before.before.before.before.before.before.before.loop.at c.before.before.before.before.before.before.first.ensures c.if1.false in omega arith
+add-at-2 c = let h = next_inside c.before.before.before.before.before.before.before.before.before.before.before.args.s.now c.before.before.before.before.before.before.before.before.before.loop.at c.before.before.before.before.before.before.first.ensures c.if1.false in omega arith
 
 loop-less : tie.Need-loop-smaller invariant-loop decreases-loop
-loop-less c = let h = next-inside c.before.before.before.before.before.before.before.before.before.before.before.args.s.now c.before.before.before.before.before.before.before.before.before.loop.at c.before.before.before.before.before.before.first.ensures c.if1.false in omega arith
+loop-less c = let h = next_inside c.before.before.before.before.before.before.before.before.before.before.before.args.s.now c.before.before.before.before.before.before.before.before.before.loop.at c.before.before.before.before.before.before.first.ensures c.if1.false in omega arith
 
 loop-again : tie.Need-loop-preserved invariant-loop decreases-loop
-loop-again c = let p : to_z w64 (of_z w64 c.before.before.before.worth-of.result) ≡ c.before.before.before.worth-of.result = to_z-of_z (search rules) in let h = next-inside c.before.before.before.before.before.before.before.before.before.before.before.args.s.now c.before.before.before.before.before.before.before.before.before.loop.at c.before.before.before.before.before.before.first.ensures c.if1.false in (c.before.before.before.before.before.before.before.before.before.loop.invariant.0 ∙ store-next c.before.before.before.before.before.before.before.before.before.before.before.args.s.now c.before.before.before.before.before.before.before.before.before.loop.at c.before.before.before.before.before.before.first.ensures _ c.before.before.before.worth-of.ensures (rw p at c.before.before.push.ensures) c.if1.false, c.before.before.push.auto.0 ∙ c.before.before.before.before.before.before.before.before.before.loop.invariant.1, omega arith)
+loop-again c = let p : to_z w64 (of_z w64 c.before.before.before.worth-of.result) ≡ c.before.before.before.worth-of.result = to_z-of_z (search rules) in let h = next_inside c.before.before.before.before.before.before.before.before.before.before.before.args.s.now c.before.before.before.before.before.before.before.before.before.loop.at c.before.before.before.before.before.before.first.ensures c.if1.false in (c.before.before.before.before.before.before.before.before.before.loop.invariant.0 ∙ store_next c.before.before.before.before.before.before.before.before.before.before.before.args.s.now c.before.before.before.before.before.before.before.before.before.loop.at c.before.before.before.before.before.before.first.ensures _ c.before.before.before.worth-of.ensures (rw p at c.before.before.push.ensures) c.if1.false, c.before.before.push.auto.0 ∙ c.before.before.before.before.before.before.before.before.before.loop.invariant.1, omega arith)
 
 same-length-2 : tie.Need-same-length-2 invariant-loop decreases-loop
 same-length-2 c = c.before.loop.invariant.1

@@ -2,7 +2,7 @@
 use native.Mathlib.Omega.{arith}
 use mir.Syntax.{w64}
 use mir.Facts.{to_z_pos}
-use Rattle.spelling.proofs.NumberLaws.{plus-is, plus-over}
+use Rattle.spelling.proofs.NumberLaws.{plus_is, plus_over}
 use Rattle.spelling.specs.Numbers.{plus}
 use borrow.Author.Rules.{rules}
 use Rattle.text.proofs.numbers.positive.Statement.{statement}
@@ -19,13 +19,13 @@ unfolding plus
 returns c = rw c.enum_told.given.1
 
 returns-2 : tie.Need-returns-2
-returns-2 c = rw c.before.before.d.given.1 (plus-over _ c.if1.true)
+returns-2 c = rw c.before.before.d.given.1 (plus_over _ c.if1.true)
 
 cast-t4 : tie.Need-overflow-cast-t4
 cast-t4 c = search rules
 
 returns-3 : tie.Need-returns-3
-returns-3 c = rw (c.before.before.d.given.1, to_z_pos w64 {n = c.before.before.d.given.0.0} (omega arith)) (plus-is _ c.if1.false)
+returns-3 c = rw (c.before.before.d.given.1, to_z_pos w64 {n = c.before.before.d.given.0.0} (omega arith)) (plus_is _ c.if1.false)
 
 pub positive-spec : {M : Type 1} → statement M
 positive-spec = tie.close (tie.spec enum-known-d enum_told returns returns-2 cast-t4 returns-3)

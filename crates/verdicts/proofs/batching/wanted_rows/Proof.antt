@@ -20,7 +20,7 @@ returns c = rw c.match.keys1
 
 returns-2 : tie.Need-returns-2
 unfolding wanted
-returns-2 c = rw c.before.match.keys2 c.flush-rows.ensures
+returns-2 c = rw c.before.match.keys2 c.flush_rows_lem.ensures
 
 returns-3 : tie.Need-returns-3
 unfolding wanted

@@ -2,9 +2,9 @@
 use mathlib.Core.Path.{ap, ◌∙◌}
 use Prim.Native.Nat.{◌≤◌}
 use lib.ListN.{length}
-use Rattle.refusing.proofs.CommandLaws.{from-inside}
-use Rattle.refusing.proofs.MakingLaws.{part-is, bad-none, bad-some}
-use Rattle.trees.specs.Legal.{legalIn}
+use Rattle.refusing.proofs.CommandLaws.{from_inside}
+use Rattle.refusing.proofs.MakingLaws.{part_is, bad_none, bad_some}
+use Rattle.trees.specs.Legal.{legal_in}
 use borrow.Author.Rules.{rules}
 use Rattle.verdicts.proofs.making.bad_formula.Statement.{statement}
 use Rattle.verdicts.proofs.making.bad_formula.Tie as tie
@@ -17,7 +17,7 @@ returns c =
     let if1 = c.if1 in
     let asks_of = c.before.before.asks_of in
     let a = c.before.before.before.before.args in
-    bad-none a.nodes.now a.words.now asks_of.result asks_of.ensures if1.true
+    bad_none a.nodes.now a.words.now asks_of.result asks_of.ensures if1.true
 
 cells-from-requires : tie.Need-cells-from-requires
 cells-from-requires c κs = search rules
@@ -26,20 +26,20 @@ mul-legal : tie.Need-overflow-mul-legal
 mul-legal c =
     let cells-from = c.cells-from in
     let a = c.before.before.before.before.before.args in
-    let inside : cells-from.result ≤ length a.words.now = rw cells-from.ensures (from-inside a.words.now) in
+    let inside : cells-from.result ≤ length a.words.now = rw cells-from.ensures (from_inside a.words.now) in
     search rules
 
 sub-legal : tie.Need-overflow-sub-legal
 sub-legal c =
     let cells-from = c.cells-from in
     let a = c.before.before.before.before.before.args in
-    rw cells-from.ensures (from-inside a.words.now)
+    rw cells-from.ensures (from_inside a.words.now)
 
 part-legal-start : tie.Need-slice-bounds-legal-start
 part-legal-start c =
     let cells-from = c.cells-from in
     let a = c.before.before.before.before.before.args in
-    let inside : cells-from.result ≤ length a.words.now = rw cells-from.ensures (from-inside a.words.now) in
+    let inside : cells-from.result ≤ length a.words.now = rw cells-from.ensures (from_inside a.words.now) in
     search rules
 
 part-legal-end : tie.Need-slice-bounds-legal-end
@@ -55,7 +55,7 @@ returns-2 c =
     let if1 = c.before.before.before.if1 in
     let asks_of = c.before.before.before.before.before.asks_of in
     let a = c.before.before.before.before.before.before.before.args in
-    bad-some a.nodes.now a.words.now _ asks_of.ensures if1.false (legal.ensures ∙ ap (legalIn a.nodes.now) (part-is a.words.now cells-from.ensures))
+    bad_some a.nodes.now a.words.now _ asks_of.ensures if1.false (legal.ensures ∙ ap (legal_in a.nodes.now) (part_is a.words.now cells-from.ensures))
 
 pub bad-formula-spec : {M : Type 1} → statement M
 bad-formula-spec =

@@ -4,14 +4,14 @@ use Prim.Native.Nat.{◌<◌, ◌≤◌}
 use native.Mathlib.Omega.{arith}
 use lib.ListN.{length}
 use Rattle.counting.specs.Counts.{top}
-use Rattle.refusing.proofs.CommandLaws.{from-inside}
-use Rattle.refusing.proofs.MakingLaws.{part-is, room-none, lacks-nodes, lacks-cells, lacks-slots}
+use Rattle.refusing.proofs.CommandLaws.{from_inside}
+use Rattle.refusing.proofs.MakingLaws.{part_is, room_none, lacks_nodes, lacks_cells, lacks_slots}
 use mir.Syntax.{w64}
 use mir.Val.{to_z, of_z}
 use mir.Facts.{to_z-of_z}
 use borrow.Author.Rules.{rules}
-use Rattle.verdicts.proofs.making.no_room.Statement.{statement}
-use Rattle.verdicts.proofs.making.no_room.Tie as tie
+use Rattle.verdicts.proofs.making.no_room_left.Statement.{statement}
+use Rattle.verdicts.proofs.making.no_room_left.Tie as tie
 
 asks-of-requires : tie.Need-asks-of-requires
 asks-of-requires c κs = search rules
@@ -21,7 +21,7 @@ returns c =
     let if1 = c.if1 in
     let asks_of = c.before.before.asks_of in
     let a = c.before.before.before.before.before.args in
-    λ bad. room-none a.nodes.now a.links.now a.cells.now a.words.now asks_of.result asks_of.ensures if1.true
+    λ bad. room_none a.nodes.now a.links.now a.cells.now a.words.now asks_of.result asks_of.ensures if1.true
 
 node-room-requires : tie.Need-node-room-requires
 node-room-requires c κs = search rules
@@ -37,7 +37,7 @@ returns-2 c =
     let if1 = c.before.before.before.if1 in
     let asks_of = c.before.before.before.before.before.asks_of in
     let a = c.before.before.before.before.before.before.before.before.args in
-    λ bad. lacks-nodes a.nodes.now a.links.now a.cells.now a.words.now asks_of.result asks_of.ensures if1.false bad node-room.ensures at.ensures if2.true
+    λ bad. lacks_nodes a.nodes.now a.links.now a.cells.now a.words.now asks_of.result asks_of.ensures if1.false bad node-room.ensures at.ensures if2.true
 
 cells-from-requires : tie.Need-cells-from-requires
 cells-from-requires c κs = search rules
@@ -46,20 +46,20 @@ mul-formula : tie.Need-overflow-mul-formula
 mul-formula c =
     let cells-from = c.cells-from in
     let a = c.before.before.before.before.before.before.before.before.before.args in
-    let inside : cells-from.result ≤ length a.words.now = rw cells-from.ensures (from-inside a.words.now) in
+    let inside : cells-from.result ≤ length a.words.now = rw cells-from.ensures (from_inside a.words.now) in
     search rules
 
 sub-formula : tie.Need-overflow-sub-formula
 sub-formula c =
     let cells-from = c.cells-from in
     let a = c.before.before.before.before.before.before.before.before.before.args in
-    rw cells-from.ensures (from-inside a.words.now)
+    rw cells-from.ensures (from_inside a.words.now)
 
 part-formula-start : tie.Need-slice-bounds-formula-start
 part-formula-start c =
     let cells-from = c.cells-from in
     let a = c.before.before.before.before.before.before.before.before.before.args in
-    let inside : cells-from.result ≤ length a.words.now = rw cells-from.ensures (from-inside a.words.now) in
+    let inside : cells-from.result ≤ length a.words.now = rw cells-from.ensures (from_inside a.words.now) in
     search rules
 
 part-formula-end : tie.Need-slice-bounds-formula-end
@@ -87,7 +87,7 @@ returns-3 c =
     let if1 = c.before.before.before.before.before.before.before.before.before.if1 in
     let asks_of = c.before.before.before.before.before.before.before.before.before.before.before.asks_of in
     let a = c.before.before.before.before.before.before.before.before.before.before.before.before.before.before.args in
-    λ bad. lacks-cells a.nodes.now a.links.now a.cells.now a.words.now asks_of.result asks_of.ensures if1.false bad node-room.ensures at.ensures if2.false cell_room.ensures at2.ensures (rw (part-is a.words.now cells-from.ensures) at plus.ensures) if3.true
+    λ bad. lacks_cells a.nodes.now a.links.now a.cells.now a.words.now asks_of.result asks_of.ensures if1.false bad node-room.ensures at.ensures if2.false cell_room.ensures at2.ensures (rw (part_is a.words.now cells-from.ensures) at plus.ensures) if3.true
 
 slot-room-requires : tie.Need-slot-room-requires
 slot-room-requires c κs = search rules
@@ -120,11 +120,11 @@ returns-4 c =
     let asks_of = c.before.before.before.before.before.before.before.before.before.before.before.before.before.before.before.before.asks_of in
     let a = c.before.before.before.before.before.before.before.before.before.before.before.before.before.before.before.before.before.before.before.args in
     let good = c.before.before.before.before.before.before.before.before.before.before.before.before.before.before.before.before.before.before.before.well-formed in
-    let new = rw (o, part-is a.words.now cells-from.ensures) at wanted-slots.ensures in
+    let new = rw (o, part_is a.words.now cells-from.ensures) at wanted-slots.ensures in
     let low : cell_room.result < top = omega (arith, cell_room.ensures, good.1.1.0.0) in
     let far : slot-room.result < top = omega (arith, slot-room.ensures, good.1.0.0) in
     λ bad.
-    lacks-slots a.nodes.now a.links.now a.cells.now a.words.now asks_of.result asks_of.ensures if1.false bad node-room.ensures at.ensures if2.false cell_room.ensures at2.ensures (rw (part-is a.words.now cells-from.ensures) at plus.ensures) if3.false low slot-room.ensures far reserve.ensures new plus2.ensures
+    lacks_slots a.nodes.now a.links.now a.cells.now a.words.now asks_of.result asks_of.ensures if1.false bad node-room.ensures at.ensures if2.false cell_room.ensures at2.ensures (rw (part_is a.words.now cells-from.ensures) at plus.ensures) if3.false low slot-room.ensures far reserve.ensures new plus2.ensures
 
 pub no-room-spec : {M : Type 1} → statement M
 no-room-spec =

@@ -2,8 +2,8 @@
 use mathlib.Core.Path.{◌≡◌}
 use Prim.Native.Nat.{◌≤◌}
 use lib.ListN.{length}
-use Rattle.refusing.proofs.CommandLaws.{from-inside}
-use Rattle.refusing.proofs.MakingLaws.{part-is, high-computed, high-other}
+use Rattle.refusing.proofs.CommandLaws.{from_inside}
+use Rattle.refusing.proofs.MakingLaws.{part_is, high_computed, high_other}
 use mir.Syntax.{w64}
 use mir.Val.{to_z, of_z}
 use mir.Facts.{to_z-of_z}
@@ -21,20 +21,20 @@ mul-height : tie.Need-overflow-mul-height
 mul-height c =
     let cells-from = c.cells-from in
     let a = c.before.before.before.before.before.args in
-    let inside : cells-from.result ≤ length a.words.now = rw cells-from.ensures (from-inside a.words.now) in
+    let inside : cells-from.result ≤ length a.words.now = rw cells-from.ensures (from_inside a.words.now) in
     search rules
 
 sub-height : tie.Need-overflow-sub-height
 sub-height c =
     let cells-from = c.cells-from in
     let a = c.before.before.before.before.before.args in
-    rw cells-from.ensures (from-inside a.words.now)
+    rw cells-from.ensures (from_inside a.words.now)
 
 part-height-start : tie.Need-slice-bounds-height-start
 part-height-start c =
     let cells-from = c.cells-from in
     let a = c.before.before.before.before.before.args in
-    let inside : cells-from.result ≤ length a.words.now = rw cells-from.ensures (from-inside a.words.now) in
+    let inside : cells-from.result ≤ length a.words.now = rw cells-from.ensures (from_inside a.words.now) in
     search rules
 
 part-height-end : tie.Need-slice-bounds-height-end
@@ -50,7 +50,7 @@ returns c =
     let if1 = c.before.before.before.if1 in
     let asks_of = c.before.before.before.before.before.asks_of in
     let a = c.before.before.before.before.before.before.before.args in
-    λ bad. high-computed a.nodes.now a.words.now _ asks_of.ensures if1.true bad (rw (part-is a.words.now cells-from.ensures) at height.ensures)
+    λ bad. high_computed a.nodes.now a.words.now _ asks_of.ensures if1.true bad (rw (part_is a.words.now cells-from.ensures) at height.ensures)
 
 too-deep-requires : tie.Need-too-deep-requires
 too-deep-requires c κs = search rules
@@ -62,7 +62,7 @@ returns-2 c =
     let asks_of = c.before.before.before.before.asks_of in
     let a = c.before.before.before.before.before.before.args in
     let o : to_z w64 (of_z w64 asks_of.result.owner) ≡ asks_of.result.owner = to_z-of_z (search rules) in
-    λ bad. high-other a.nodes.now a.words.now _ asks_of.ensures if1.false (rw o at too-deep.ensures)
+    λ bad. high_other a.nodes.now a.words.now _ asks_of.ensures if1.false (rw o at too-deep.ensures)
 
 pub too-high-spec : {M : Type 1} → statement M
 too-high-spec =

@@ -1,6 +1,6 @@
 -- `verdicts::table::refusal` meets its contract. Assumes nothing.
 use mathlib.Core.Path.{sym, ◌∙◌}
-use Rattle.refusing.proofs.TableLaws.{rows_are, given-2, given-3, given-4, given_made, given-8, given-9, given-0}
+use Rattle.refusing.proofs.TableLaws.{rows_are, given_2, given_3, given_4, given_made, given_8, given_9, given_0}
 use borrow.Author.Rules.{rules}
 use Rattle.verdicts.proofs.table.refusal.Statement.{statement}
 use Rattle.verdicts.proofs.table.refusal.Tie as tie
@@ -13,7 +13,7 @@ returns c =
     let if1 = c.if1 in
     let unknown = c.before.unknown in
     let a = c.before.before.before.before.args in
-    given-2 _ _ _ _ _ _ _ _ (sym unknown.ensures ∙ if1.true) ∙ sym (rows_are a.nodes.now a.links.now a.cells.now a.rows a.words.now)
+    given_2 _ _ _ _ _ _ _ _ (sym unknown.ensures ∙ if1.true) ∙ sym (rows_are a.nodes.now a.links.now a.cells.now a.rows a.words.now)
 
 wrong-node-requires : tie.Need-wrong-node-requires
 wrong-node-requires c κs = search rules
@@ -26,7 +26,7 @@ returns-2 c =
     let unknown = c.before.before.before.unknown in
     let a = c.before.before.before.before.before.before.args in
     let known = sym unknown.ensures ∙ if1.false in
-    given-3 _ _ _ _ _ _ _ _ known (sym wrong-node.ensures ∙ if2.true) ∙ sym (rows_are a.nodes.now a.links.now a.cells.now a.rows a.words.now)
+    given_3 _ _ _ _ _ _ _ _ known (sym wrong-node.ensures ∙ if2.true) ∙ sym (rows_are a.nodes.now a.links.now a.cells.now a.rows a.words.now)
 
 gone-node-requires : tie.Need-gone-node-requires
 gone-node-requires c κs = search rules
@@ -42,7 +42,7 @@ returns-3 c =
     let a = c.before.before.before.before.before.before.before.before.args in
     let known = sym unknown.ensures ∙ if1.false in
     let right = sym wrong-node.ensures ∙ if2.false in
-    given-4 _ _ _ _ _ _ _ _ known right (sym gone-node.ensures ∙ if3.true) ∙ sym (rows_are a.nodes.now a.links.now a.cells.now a.rows a.words.now)
+    given_4 _ _ _ _ _ _ _ _ known right (sym gone-node.ensures ∙ if3.true) ∙ sym (rows_are a.nodes.now a.links.now a.cells.now a.rows a.words.now)
 
 making-requires : tie.Need-making-requires
 making-requires c κs = search rules
@@ -82,7 +82,7 @@ returns-5 c =
     let known = sym unknown.ensures ∙ if1.false in
     let right = sym wrong-node.ensures ∙ if2.false in
     let live = sym gone-node.ensures ∙ if3.false in
-    given-8 _ _ _ _ _ _ _ _ known right live making.ensures if4.false (sym wrong-depth.ensures ∙ if5.true) ∙ sym (rows_are a.nodes.now a.links.now a.cells.now a.rows a.words.now)
+    given_8 _ _ _ _ _ _ _ _ known right live making.ensures if4.false (sym wrong-depth.ensures ∙ if5.true) ∙ sym (rows_are a.nodes.now a.links.now a.cells.now a.rows a.words.now)
 
 few-rows-requires : tie.Need-few-rows-requires
 few-rows-requires c κs = search rules
@@ -90,7 +90,7 @@ few-rows-requires c κs = search rules
 returns-6 : tie.Need-returns-6
 returns-6 c =
     let if6 = c.if6 in
-    let few-rows = c.before.few-rows in
+    let few_rows_lem = c.before.few_rows_lem in
     let if5 = c.before.before.if5 in
     let wrong-depth = c.before.before.before.wrong-depth in
     let if4 = c.before.before.before.before.if4 in
@@ -106,12 +106,12 @@ returns-6 c =
     let right = sym wrong-node.ensures ∙ if2.false in
     let live = sym gone-node.ensures ∙ if3.false in
     let deep = sym wrong-depth.ensures ∙ if5.false in
-    given-9 _ _ _ _ _ _ _ _ known right live making.ensures if4.false deep (sym few-rows.ensures ∙ if6.true) ∙ sym (rows_are a.nodes.now a.links.now a.cells.now a.rows a.words.now)
+    given_9 _ _ _ _ _ _ _ _ known right live making.ensures if4.false deep (sym few_rows_lem.ensures ∙ if6.true) ∙ sym (rows_are a.nodes.now a.links.now a.cells.now a.rows a.words.now)
 
 returns-7 : tie.Need-returns-7
 returns-7 c =
     let if6 = c.if6 in
-    let few-rows = c.before.few-rows in
+    let few_rows_lem = c.before.few_rows_lem in
     let if5 = c.before.before.if5 in
     let wrong-depth = c.before.before.before.wrong-depth in
     let if4 = c.before.before.before.before.if4 in
@@ -127,7 +127,7 @@ returns-7 c =
     let right = sym wrong-node.ensures ∙ if2.false in
     let live = sym gone-node.ensures ∙ if3.false in
     let deep = sym wrong-depth.ensures ∙ if5.false in
-    given-0 _ _ _ _ _ _ _ _ known right live making.ensures if4.false deep (sym few-rows.ensures ∙ if6.false) ∙ sym (rows_are a.nodes.now a.links.now a.cells.now a.rows a.words.now)
+    given_0 _ _ _ _ _ _ _ _ known right live making.ensures if4.false deep (sym few_rows_lem.ensures ∙ if6.false) ∙ sym (rows_are a.nodes.now a.links.now a.cells.now a.rows a.words.now)
 
 pub refusal-spec : {M : Type 1} → statement M
 refusal-spec =
