@@ -9,7 +9,7 @@ use refusals::commands::command_of;
 use verdicts::table;
 
 // A refusal has value 0 and runs 0.
-#[derive(Drop)]
+#[derive(Clone, Copy)]
 pub struct Answer {
     pub code: u64,
     pub value: i64,

@@ -17,7 +17,7 @@ use trees::cells::Number;
 use values::Value;
 
 // The value returned, and how many effects ran.
-#[derive(Drop)]
+#[derive(Clone, Copy)]
 pub struct Done {
     pub value: i64,
     pub runs: u64,

@@ -1,15 +1,17 @@
+#![tactic(auto)]
+
 // The flags of a node: single bits of one byte, joined, masked and cleared by value, as the Rust does.
 ghost use Rattle.std.specs.Prelude.{◌≡◌, ◌-◌, ◌%◌, eqb, not};
 ghost use Rattle.std.specs.Int.Bits.{bit_and, bit_or};
 ghost use Rattle.flags.specs.Flags.{named};
 
-#[derive(Drop)]
+#[derive(Clone, Copy)]
 pub struct Flags {
     pub bits: u8,
 }
 
 // Which of the six named bits are set.
-#[derive(Drop)]
+#[derive(Clone, Copy)]
 pub struct Named {
     pub mutable: bool,
     pub watching: bool,

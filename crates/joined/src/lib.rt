@@ -1,3 +1,5 @@
+#![tactic(auto)]
+
 // How the tables are linked, flagged and queued: the second half of the test whether they are well formed. The first half says what they tell of nodes.
 // It only reads. Every function takes any words.
 mod depends;

@@ -1,5 +1,5 @@
 // The words of a new link; its next_sub is nothing.
-#[derive(Drop)]
+#[derive(Clone, Copy)]
 pub struct LinkInit {
     pub version: u64,
     pub dep: u64,

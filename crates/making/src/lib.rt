@@ -1,3 +1,5 @@
+#![tactic(auto)]
+
 // The making of nodes. A new node has the next number, and its formula the next cells. After the constructors of Signal, Computed, Effect and EffectScope in lib.rs.
 ghost use Rattle.std.specs.Prelude.{◌≡◌, List, ℕ, ◌+◌, ℤ, set};
 ghost use Rattle.reading.specs.Tables.{state};
@@ -177,7 +179,7 @@ pub fn new_scope(
 }
 
 // The number of a new effect, and how many rows its run wrote.
-#[derive(Drop)]
+#[derive(Clone, Copy)]
 pub struct Started {
     pub number: u64,
     pub rows: u64,

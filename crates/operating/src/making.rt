@@ -1,7 +1,7 @@
 use flags::Flags;
 
 // What a new node is, besides its formula. The owner is a word: 0 for none, else its number + 1.
-#[derive(Drop)]
+#[derive(Clone, Copy)]
 pub struct Sort {
     pub kind: u64,
     pub flags: Flags,

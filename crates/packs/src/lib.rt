@@ -1,3 +1,5 @@
+#![tactic(auto)]
+
 // Many scripts in one stream, as oracle/README.md sets it out: each is followed by a line `%`, or by a line `%cut` where the newline before that
 // line is no part of the script.
 ghost use Rattle.std.specs.Prelude.{◌≡◌, ◌<◌, ◌≤◌, length};
@@ -6,7 +8,7 @@ ghost use Rattle.packs.specs.Packs.{line_of, mark_of, unended_in, pair_in, secon
 use bytes::scan::find;
 
 // Whether the line that a window begins with follows a script.
-#[derive(Drop)]
+#[derive(Clone, Copy)]
 pub enum Mark {
     // Not to be told before more is read.
     Unknown,
@@ -16,7 +18,7 @@ pub enum Mark {
 }
 
 // Where a run stands in a script: it goes on, or what is left of it is passed over, in a line or between lines.
-#[derive(Drop)]
+#[derive(Clone, Copy)]
 pub enum Place {
     Open,
     InLine,
@@ -24,7 +26,7 @@ pub enum Place {
 }
 
 // What to do with a window.
-#[derive(Drop)]
+#[derive(Clone, Copy)]
 pub enum Act {
     Read,
     // A turn on so many bytes, and whether the script ends there.

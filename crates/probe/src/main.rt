@@ -1,3 +1,5 @@
+#![tactic(auto)]
+
 // Runs one command on tables that come with it, and prints every word after it. A block of standard input is six lengths in words (nodes,
 // links, values, cells, log, command) and then the words, white space between. With the argument `empty` the tables are emptied instead.
 mod read;
@@ -11,7 +13,7 @@ use show::show;
 use stream::{Window, least};
 
 // What the arguments ask for.
-#[derive(Drop)]
+#[derive(Clone, Copy)]
 enum Asked {
     Commands,
     Emptying,

@@ -5,14 +5,14 @@ use stream::{Got, Window, least, next};
 use text::numbers::number;
 
 // Where the window stands, and whether all that was read is numbers, and fits.
-#[derive(Drop)]
+#[derive(Clone, Copy)]
 pub(crate) struct Input {
     pub window: Window,
     pub good: bool,
 }
 
 // The lengths that a block begins with. `ended`: there is no block any more.
-#[derive(Drop)]
+#[derive(Clone, Copy)]
 pub(crate) struct Sizes {
     pub nodes: usize,
     pub links: usize,
@@ -25,13 +25,13 @@ pub(crate) struct Sizes {
 }
 
 // How many bytes without white space there are, and the window behind them.
-#[derive(Drop)]
+#[derive(Clone, Copy)]
 struct Cut {
     long: usize,
     window: Window,
 }
 
-#[derive(Drop)]
+#[derive(Clone, Copy)]
 struct Word {
     word: u64,
     // Nothing but white space was left.
@@ -39,7 +39,7 @@ struct Word {
     input: Input,
 }
 
-#[derive(Drop)]
+#[derive(Clone, Copy)]
 struct SignedWord {
     word: i64,
     input: Input,

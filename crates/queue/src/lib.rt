@@ -1,3 +1,5 @@
+#![tactic(auto)]
+
 // The queue of effects: a column of the node table. Row 0 holds its length, row i + 1 its entry i, so it never holds more entries than there are rows.
 ghost use Rattle.std.specs.Prelude.{◌≡◌};
 ghost use Rattle.queue.specs.Queue.{count, entry_at, pushed, emptied, swapped, reversed_from};

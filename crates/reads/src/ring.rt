@@ -33,7 +33,7 @@ const UNSURE: Flags = Flags {
 };
 
 // What an expression is worth, and the cell after it.
-#[derive(Drop)]
+#[derive(Clone, Copy)]
 pub struct Worked {
     pub value: Value,
     pub next: u64,

@@ -1,12 +1,12 @@
 // The kinds of node that a command takes.
-#[derive(Drop)]
+#[derive(Clone, Copy)]
 pub enum Takes {
     Signals,
     Readable,
     Owners,
 }
 
-#[derive(Drop)]
+#[derive(Clone, Copy)]
 pub struct Asks {
     // whether it names a node, which, and of what kinds
     pub names: bool,

@@ -1,5 +1,5 @@
 // The ten commands with their numbers. The cells of a formula stay in the words: `cells_from` of `refusals` says where.
-#[derive(Drop)]
+#[derive(Clone, Copy)]
 pub enum Command {
     // 1: new signal, of this value
     Signal(i64),

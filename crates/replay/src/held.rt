@@ -4,7 +4,7 @@ use script::packed::Step;
 use stream::{Window, after, fill, next};
 
 // The descriptors of the scripts and of the stored answers.
-#[derive(Drop)]
+#[derive(Clone, Copy)]
 pub(crate) struct Files {
     pub scripts: i32,
     pub answers: i32,
@@ -12,7 +12,7 @@ pub(crate) struct Files {
 
 // The windows on the scripts (at, end, over) and on the stored answers, whether more of the scripts is wanted, whether the run goes on, whether
 // all was the same so far, and what was counted.
-#[derive(Drop)]
+#[derive(Clone, Copy)]
 pub(crate) struct State {
     pub at: usize,
     pub end: usize,

@@ -5,7 +5,7 @@ use stream::{number_argument, send};
 use text::answers::{put_all, put_natural};
 
 // Lengths in words.
-#[derive(Drop)]
+#[derive(Clone, Copy)]
 pub(crate) struct Room {
     pub node_words: usize,
     pub link_words: usize,

@@ -1,3 +1,5 @@
+#![tactic(auto)]
+
 // Holds stored answers of the oracle against the engine, with no Rust at hand. Arguments: five words a pack, its name and its capacities in nodes,
 // links, cells and log rows. The file NAME.in has the scripts and NAME.out the answers, as oracle/README.md sets many scripts out.
 mod held;

@@ -1,5 +1,5 @@
 // One of a node's two lists: the fields of a slot that name the node and the two neighbours, and the node's fields for head and tail.
-#[derive(Drop)]
+#[derive(Clone, Copy)]
 pub struct Side {
     pub own: u64,
     pub prev: u64,

@@ -1,3 +1,5 @@
+#![tactic(auto)]
+
 // One turn of a script: the first pair of a window on the input, done on lent tables and answered.
 pub mod packed;
 pub mod turns;

@@ -9,7 +9,7 @@ use operations::emptying::empty;
 use packs::{Act, Place, decide};
 
 // What a step comes to; `used` bytes of the window are done, out[0..bytes] is an answer.
-#[derive(Drop)]
+#[derive(Clone, Copy)]
 pub enum Step {
     Read,
     // Answered(used, bytes)

@@ -1,5 +1,5 @@
 // What a list begins with.
-#[derive(Drop)]
+#[derive(Clone, Copy)]
 pub enum Next {
     // nothing: it is over
     Over,

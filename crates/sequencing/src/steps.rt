@@ -1,5 +1,5 @@
 // Why a series stops.
-#[derive(Drop)]
+#[derive(Clone, Copy)]
 pub enum Why {
     // the list is over
     Over,
@@ -12,7 +12,7 @@ pub enum Why {
 }
 
 // What a step comes to.
-#[derive(Drop)]
+#[derive(Clone, Copy)]
 pub enum Step {
     // nothing was done
     Stopped(Why),

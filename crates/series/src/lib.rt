@@ -1,3 +1,5 @@
+#![tactic(auto)]
+
 // Many commands on lent tables, one after another. The tables are tested once.
 pub mod list;
 pub mod steps;
@@ -14,7 +16,7 @@ const ROW: usize = 2;
 
 // used: words of the list that are done with; where the list is bad, its bad word is the next.
 // rows: how many rows the commands wrote, one after another.
-#[derive(Drop)]
+#[derive(Clone, Copy)]
 pub struct Ended {
     pub why: Why,
     pub used: usize,

@@ -1,3 +1,5 @@
+#![tactic(auto)]
+
 // Reads pairs of lines from standard input and answers each on standard output as soon as it is there.
 ghost use Rattle.script.specs.Turns.{tables};
 ghost use Rattle.simmer.specs.Steps.{Stepped, lent};
@@ -9,7 +11,7 @@ use script::turns::Turn;
 use stream::{Window, after, fill, send};
 
 // Where the window stands, and whether the run goes on.
-#[derive(Drop)]
+#[derive(Clone, Copy)]
 struct State {
     at: usize,
     end: usize,

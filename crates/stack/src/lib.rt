@@ -1,8 +1,10 @@
+#![tactic(auto)]
+
 // A bounded stack of words in a lent slice, of which the first `len` are in use.
 ghost use Rattle.std.specs.Prelude.{◌≡◌};
 ghost use Rattle.stack.specs.Stack.{pushed, pushed_len, popped};
 
-#[derive(Drop)]
+#[derive(Clone, Copy)]
 pub enum Popped {
     // The word that was on top, and how many are left.
     Top(u64, u64),

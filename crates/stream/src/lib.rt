@@ -1,9 +1,11 @@
+#![tactic(auto)]
+
 // Descriptors: a window on what was read and not yet used, and all of what is to be written. What the system reads or writes, no contract can say.
 ghost use Rattle.std.specs.Prelude.{length, ◌+◌, ◌<◌, ◌≤◌, min, max, false, ◌≡◌};
 ghost use Rattle.stream.specs.Windows.{Front, Filled, Spilled, Taken};
 
 // The unread bytes of a buffer go from `at` up to `end`. `over`: no more will come.
-#[derive(Drop)]
+#[derive(Clone, Copy)]
 pub struct Window {
     pub at: usize,
     pub end: usize,
@@ -11,7 +13,7 @@ pub struct Window {
 }
 
 // The next byte, or 256 at the end of the input.
-#[derive(Drop)]
+#[derive(Clone, Copy)]
 pub struct Got {
     pub byte: u64,
     pub window: Window,
@@ -85,7 +87,7 @@ pub fn send(fd: i32, out: &[u8], n: usize) -> bool
 }
 
 // How much of a buffer is filled, and whether all that left it was written.
-#[derive(Drop)]
+#[derive(Clone, Copy)]
 pub struct Sink {
     pub at: usize,
     pub ok: bool,

@@ -1,3 +1,5 @@
+#![tactic(auto)]
+
 // Answers scripts as `simmer` does and prints after each command the tables, as oracle/README.md sets it out; a line `%` begins another script.
 // Arguments: --nodes N, --links N, --cells N, --rows N choose capacities, --plain leaves the tables out; --dump, the default, shows them.
 // --many, which the oracle needs for more than one script, changes nothing here.
@@ -15,7 +17,7 @@ use stream::{Window, after, fill, least, send};
 use view::dump;
 
 // Where the window and the script stand, and whether the run goes on.
-#[derive(Drop)]
+#[derive(Clone, Copy)]
 struct State {
     at: usize,
     end: usize,

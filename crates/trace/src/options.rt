@@ -4,7 +4,7 @@ ghost use Rattle.std.specs.Prelude.{◌<◌};
 use stream::number_argument;
 
 // Lengths in words, whether tables are shown, and whether the arguments could be read.
-#[derive(Drop)]
+#[derive(Clone, Copy)]
 pub(crate) struct Options {
     pub node_words: usize,
     pub link_words: usize,

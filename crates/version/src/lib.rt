@@ -1,7 +1,9 @@
+#![tactic(auto)]
+
 // The evaluation cycle, and the version of a link: the cycle at which it was last used.
 ghost use Rattle.std.specs.Prelude.{◌≡◌, ◌+◌, ◌%◌, ◌^◌, ◌==◌};
 
-#[derive(Drop)]
+#[derive(Clone, Copy)]
 pub struct Version {
     pub cycle: u64,
 }
