@@ -189,6 +189,16 @@ def turn(text):
 
 
 def turn_antt(text):
+    # What this file takes from a library keeps the library's spelling.
+    taken = set()
+    for path, items in re.findall(r'(?m)^ *(?:pub )?use ([^\s{]+)\.?(\{[^}]*\})?', bare(text)):
+        steps = path.strip('.').split('.')
+        if not (steps[0] == 'Rattle' and len(steps) > 1 and steps[1] in crates):
+            taken.update(WORD.findall(items or ''))
+
+    def turn(text):
+        return WORD.sub(lambda m: table.get(m[0], m[0]) if m[0] not in taken else m[0], text)
+
     def line(l):
         code, mark, said = l, '', ''
         at = re.search(r'(?<![^\s(){}.;,@"«»])--', l)

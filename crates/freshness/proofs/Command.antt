@@ -7,7 +7,7 @@ use Prim.Native.Nat.{ℕ, zero, suc, ◌+◌, ◌<◌, pred}
 use native.Mathlib.Omega.{arith}
 use lib.Dec.{eqb}
 use lib.IntN.{pos}
-use borrow.Author.Tests.{not_true_lem, eqb-true, eqb-false, eq-eqb, ne_eqb}
+use borrow.Author.Tests.{not-true, eqb-true, eqb-false, eq-eqb, ne_eqb}
 use Rattle.flags.specs.declared.Named.{Named}
 use Rattle.values.specs.declared.Value.{Value}
 use Rattle.values.specs.Values.{value}
@@ -311,7 +311,7 @@ module _ (P : Course) (so : Sound P) (rows : ℕ) where
   stepped (dispose_of n) h fits =
       let k = taken P.st rows so.formed an_owner n (h 2) in
       let x = node_of n in
-      let rn = not_true_lem (readable (s.kind x)) k.1 in
+      let rn = not-true (readable (s.kind x)) k.1 in
       let q = dispose_ring Still drops_still s x in
       let d = dispose_inside g st s x i k.0 rn in
       let t = dispose s x in

@@ -4,7 +4,7 @@ use mathlib.Core.Logic.{◌⊎◌, inl, inr}
 use mathlib.Core.Bool.{Bool, true, false, not, ◌||◌}
 use mathlib.Core.List.{List, [], ◌∷◌}
 use Prim.Native.Nat.{ℕ, ◌<◌}
-use borrow.Author.Tests.{not_true_lem}
+use borrow.Author.Tests.{not-true}
 use Rattle.flags.specs.declared.Named.{Named}
 use Rattle.values.specs.declared.Value.{Value}
 use Rattle.values.specs.Values.{same}
@@ -27,7 +27,7 @@ unfolding moved firsts
 moved_at a b [] e = false≢true e
 moved_at a b (x ∷ xs) e =
     let n = not (same (a x.0) (b x.0)) in
-    either n (λ y. (x.0, inl refl, same_no (a x.0) (b x.0) (not_true_lem (same (a x.0) (b x.0)) y)))
+    either n (λ y. (x.0, inl refl, same_no (a x.0) (b x.0) (not-true (same (a x.0) (b x.0)) y)))
     (λ y. let r = moved_at a b xs (or_one n (moved a b xs) e y) in (r.0, inr r.1, r.2))
 
 at_moved : (a b : ℕ → Value) (xs : List (ℕ × Value)) (d : ℕ) → In d (firsts xs) → (a d ≡ b d → ⊥) → moved a b xs ≡ true

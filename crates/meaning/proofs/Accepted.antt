@@ -8,7 +8,7 @@ use Prim.Native.Nat.{ℕ, zero, suc, ◌+◌, ◌≤◌, ◌<◌}
 use native.Mathlib.Omega.{arith}
 use lib.Dec.{leb, ltb}
 use lib.IntN.{ℤ, pos, negsuc}
-use borrow.Author.Tests.{leb-false, ltb-true, ltb-false, not_true_lem, not_false_lem, eqb-false}
+use borrow.Author.Tests.{leb-false, ltb-true, ltb-false, not-true, not-false, eqb-false}
 use Rattle.values.specs.declared.Value.{Value}
 use Rattle.values.specs.Values.{value, same}
 use Rattle.trees.specs.Trees.{Tree, constant, size, nesting, names}
@@ -113,8 +113,8 @@ module _ (s : St) (rows : ℕ) (w : WellFormed s) where
   -- ---- rows 3 to 7 leave room for a new node
   owner_fits : (o : ℤ) → wrong_owner v o ≡ false → is_gone v o ≡ false → (p : ℕ) → owner_of o ≡ some p → (p < s.size) × (readable (s.kind p) ≡ false) × (s.gone p ≡ false)
   owner_fits (pos q) a b p e =
-      let x = known an_owner (pos q) (not_false_lem (is_a v an_owner (pos q)) a) in
-      subst (λ (z : ℕ). (z < s.size) × (readable (s.kind z) ≡ false) × (s.gone z ≡ false)) (same_some e) (x.0, not_true_lem (readable (s.kind q)) x.1, b)
+      let x = known an_owner (pos q) (not-false (is_a v an_owner (pos q)) a) in
+      subst (λ (z : ℕ). (z < s.size) × (readable (s.kind z) ≡ false) × (s.gone z ≡ false)) (same_some e) (x.0, not-true (readable (s.kind q)) x.1, b)
   owner_fits (negsuc q) a b p e = none_some e
 
   readable_known : (ns : List ℕ) → all_readable v ns ≡ true → (m : ℕ) → In m ns → (m < s.size) × (readable (s.kind m) ≡ true)
@@ -135,7 +135,7 @@ module _ (s : St) (rows : ℕ) (w : WellFormed s) where
     where
       go : (o : Option Tree) → tree_of cs ≡ o → not (on o (λ t. all_readable v (names t))) ≡ false → Legal (get_or o (constant (pos 0)))
       go none q a = false≢true (sym a)
-      go (some t) q a = let x = (tree_exact cs t).0 q in record { known = readable_known (names t) (not_false_lem (all_readable v (names t)) a); few = x.few; shallow = x.shallow }
+      go (some t) q a = let x = (tree_exact cs t).0 q in record { known = readable_known (names t) (not-false (all_readable v (names t)) a); few = x.few; shallow = x.shallow }
 
   fits : (k : Kind) (cs : Option (List ℤ)) (o : ℤ) → wrong_owner v o ≡ false → is_gone v o ≡ false → on cs (λ ws. not (legal_cells v ws)) ≡ false → ltb (most_level k) (level_of s.level k (tree_in cs) (owner_of o)) ≡ false → full v (some k) (tree_in cs) (owner_of o) ≡ false
       → (readable k ≡ true → owner_of o ≡ none) → ((k ≡ signal) ⊎ (k ≡ scope) → names (tree_in cs) ≡ []) → Fits (with_log s []) k (tree_in cs) (owner_of o)
@@ -161,7 +161,7 @@ module _ (s : St) (rows : ℕ) (w : WellFormed s) where
 
   -- ---- command by command, where no row holds
   pub taken : (p : Kind → Bool) (n : ℤ) → not (is_a v p n) || false ≡ false → (node_of n < s.size) × (p (s.kind (node_of n)) ≡ true)
-  taken p n e = known p n (not_false_lem (is_a v p n) (or_left (not (is_a v p n)) false e))
+  taken p n e = known p n (not-false (is_a v p n) (or_left (not (is_a v p n)) false e))
 
   pub is_signal : (k : Kind) → a_signal k ≡ true → k ≡ signal
   is_signal signal e = refl
@@ -219,7 +219,7 @@ module _ (s : St) (rows : ℕ) (w : WellFormed s) where
       still_ended _ (read_inside g st (with_log s []) (node_of n) i k.0 k.1) (settle_ring Still renews_still (with_log s []) (node_of n))
   perform_well (dispose_of n) h =
       let k = taken an_owner n (h 2) in
-      let r = dispose_inside g st (with_log s []) (node_of n) i k.0 (not_true_lem (readable (s.kind (node_of n))) k.1) in
+      let r = dispose_inside g st (with_log s []) (node_of n) i k.0 (not-true (readable (s.kind (node_of n))) k.1) in
       still_ended _ (record { inside = r.inside; stuck = r.stuck }) (dispose_ring Still drops_still (with_log s []) (node_of n))
   perform_well batch_start h = record { formed = start_well_formed (with_log s []) (leb-false most_depth s.depth (h 7)) logless; stuck = refl }
   perform_well batch_end h = end_well s.depth refl (eqb-false s.depth 0 (h 7))

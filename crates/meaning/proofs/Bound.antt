@@ -5,7 +5,7 @@ use mathlib.Core.List.{List, [], ◌∷◌, ◌++◌}
 use mathlib.Core.Option.{Option, none, some}
 use Prim.Native.Nat.{ℕ, zero, suc, ◌<◌}
 use lib.IntN.{ℤ, pos, negsuc}
-use borrow.Author.Tests.{not_true_lem, eqb-false}
+use borrow.Author.Tests.{not-true, eqb-false}
 use Rattle.values.specs.declared.Value.{Value}
 use Rattle.values.specs.Values.{value, same}
 use Rattle.trees.specs.Trees.{constant, names}
@@ -112,7 +112,7 @@ module _ (s : St) (rows : ℕ) (w : WellFormed s) where
       by_same _ (ap (λ (z : Given). z.kind) r.inside.same) (λ e lo ke a. read_reads g st (with_log s []) (node_of n) i k.0 k.1 e ke)
   perform_bound (dispose_of n) h =
       let k = taken s rows w an_owner n (h 2) in
-      let r = dispose_inside g st (with_log s []) (node_of n) i k.0 (not_true_lem (readable (s.kind (node_of n))) k.1) in
+      let r = dispose_inside g st (with_log s []) (node_of n) i k.0 (not-true (readable (s.kind (node_of n))) k.1) in
       by_same _ (ap (λ (z : Given). z.kind) r.inside.same) r.reads
   perform_bound batch_start h = by_same _ refl (λ m lo ke a. record { links = refl; ends = λ l j. (refl, refl) })
   perform_bound batch_end h = ends_bound s.depth

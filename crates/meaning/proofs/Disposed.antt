@@ -7,7 +7,7 @@ use mathlib.Core.Option.{Option, some}
 use Prim.Native.Nat.{ℕ, ◌+◌, ◌<◌}
 use native.Mathlib.Omega.{arith}
 use lib.IntN.{ℤ, pos}
-use borrow.Author.Tests.{not_true_lem}
+use borrow.Author.Tests.{not-true}
 use Rattle.trees.specs.Trees.{Tree}
 use Rattle.meaning.specs.State.{St, Kind, signal, computed, effect, scope, readable, deps}
 use Rattle.meaning.specs.Setters.{with_log}
@@ -67,7 +67,7 @@ module _ (s : St) (rows : ℕ) (w : WellFormed s) (ws : List ℤ) (x : ℕ) (is 
       now h =
           let wl = logless s rows w in
           let k = taken s rows w an_owner (pos x) (h 2) in
-          let r = dispose_inside (given (with_log s [])) (static (with_log s []) wl) (with_log s []) x (rest_inside (with_log s []) wl) k.0 (not_true_lem (readable (s.kind x)) k.1) in
+          let r = dispose_inside (given (with_log s [])) (static (with_log s []) wl) (with_log s []) x (rest_inside (with_log s []) wl) k.0 (not-true (readable (s.kind x)) k.1) in
           record { gone = dispose_gone (with_log s []) x; others = r.others; keeps = record { still = r.inside.same; gone = (dispose_ring Still drops_still (with_log s []) x).gone } }
 
 -- ---- the reserve

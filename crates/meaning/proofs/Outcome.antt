@@ -8,7 +8,7 @@ use Prim.Native.Nat.{ℕ, zero, suc, ◌≤◌, ◌<◌}
 use native.Mathlib.Omega.{arith}
 use lib.IntN.{ℤ, pos, negsuc}
 use lib.ListN.{length}
-use borrow.Author.Tests.{eq-eqb, ltb-false, not_true_lem}
+use borrow.Author.Tests.{eq-eqb, ltb-false, not-true}
 use Rattle.values.specs.declared.Value.{Value}
 use Rattle.values.specs.Values.{value, same}
 use Rattle.lists.specs.Sum.{count}
@@ -197,7 +197,7 @@ module _ (s : St) (rows : ℕ) (w : WellFormed s) where
       let k = taken s rows w readable n (h 2) in
       let f = (settle_ring Still renews_still (with_log s []) (node_of n)).same in
       told_calm (read_of n) _ (ap (λ (y : Fixed). y.log) f) (ap (λ (y : Fixed). y.nodes.size) f) (read_marks g st (with_log s []) (node_of n) i k.0 k.1)
-  perform_told (dispose_of (pos x)) h = let k = taken s rows w an_owner (pos x) (h 2) in dispose_told x k.0 (not_true_lem (readable (s.kind x)) k.1)
+  perform_told (dispose_of (pos x)) h = let k = taken s rows w an_owner (pos x) (h 2) in dispose_told x k.0 (not-true (readable (s.kind x)) k.1)
   perform_told (dispose_of (negsuc x)) h = false≢true (sym (h 2))
   perform_told batch_start h = told_calm batch_start _ refl refl (λ m r. refl)
   perform_told batch_end h = end_told batch_end s.depth refl (λ e. (eq-eqb s.depth 1 e, wanted 1 e))

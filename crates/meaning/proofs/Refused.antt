@@ -9,7 +9,7 @@ use native.Mathlib.Omega.{arith}
 use lib.Dec.{leb}
 use lib.IntN.{ℤ}
 use lib.ListN.{length, get_or}
-use borrow.Author.Tests.{eq-eqb, not_true_lem}
+use borrow.Author.Tests.{eq-eqb, not-true}
 use Rattle.meaning.specs.State.{St, nothing}
 use Rattle.meaning.specs.Words.{Command, batch_start, batch_end, command_of}
 use Rattle.meaning.specs.Refusals.{sight_of, asks_of, most_depth, unknown, wrong_node, gone_node, bad_formula, too_high, no_room, wrong_depth, table, first, refusal}
@@ -114,7 +114,7 @@ module _ (well : Bool) (s : St) (rows : ℕ) (ws : List ℤ) where
   pub not_well_formed : (well ≡ true) ↔ WellFormed s → ((command well s rows ws).code ≡ 1) ↔ (WellFormed s → ⊥)
   unfolding table
   not_well_formed tells = (
-    λ e w. clash (tells.1 w) (not_true_lem well ((given_exactly 0).0 e).0),
+    λ e w. clash (tells.1 w) (not-true well ((given_exactly 0).0 e).0),
     λ h. (given_exactly 0).1 (go h well refl, λ j l. absurd (omega arith)),
   )
     where

@@ -9,7 +9,7 @@ use native.Mathlib.Omega.{arith}
 use lib.Dec.{T, eqb, ltb}
 use lib.IntN.{ℤ, pos}
 use lib.ListN.{length, get_or}
-use borrow.Author.Tests.{not_false_lem}
+use borrow.Author.Tests.{not-false}
 use Rattle.primitive.specs.Words.{COUNT, KIND, LEVEL, SIGNAL, COMPUTED, EFFECT, node}
 use Rattle.trees.specs.Trees.{Tree, constant, written, size, names}
 use Rattle.trees.specs.Legal.{read_kind, readable_in, AllReadable, legal_in}
@@ -93,7 +93,7 @@ module _ (nodes : List ℕ) where
   -- ---- the tree of a legal formula
   module _ (cs : List ℤ) (legal : illegal (nodes_alone nodes) (some cs) ≡ false) where
     found : (t : Tree) × (tree_of cs ≡ some t)
-    found = go (tree_of cs) refl (not_false_lem (legal_cells (nodes_alone nodes) cs) legal)
+    found = go (tree_of cs) refl (not-false (legal_cells (nodes_alone nodes) cs) legal)
       where
         go : (o : Option Tree) → tree_of cs ≡ o → legal_tree o ≡ true → (t : Tree) × (tree_of cs ≡ some t)
         go none e h = f≢t h

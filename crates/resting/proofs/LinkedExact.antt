@@ -6,7 +6,7 @@ use Prim.Native.Nat.{ℕ, suc, ◌+◌, ◌-◌, ◌*◌, ◌/◌, ◌<◌, ◌�
 use native.Mathlib.Omega.{arith}
 use lib.Dec.{eqb, ltb}
 use lib.ListN.{get_or, length, get_or-eq_default}
-use borrow.Author.Tests.{eq-eqb, eqb-true, ltb-true, ltb-false, lt-ltb, not_true_lem}
+use borrow.Author.Tests.{eq-eqb, eqb-true, ltb-true, ltb-false, lt-ltb, not-true}
 use Rattle.primitive.specs.Rows.{field}
 use Rattle.primitive.proofs.RowLaws.{has, field_is}
 use Rattle.lists.specs.Sum.{All, occ, count, sum}
@@ -33,7 +33,7 @@ live_low l x e = at (ltb (suc x * 8 + 7) (length l)) refl
     at true q = omega (arith, ltb-true (suc x * 8 + 7) (length l) q)
     at false q =
         let z : field 8 l x 7 ≡ 0 = field_is 8 l x 7 (has 8 7 (omega arith) (omega arith)) ∙ get_or-eq_default l 0 {n = suc x * 8 + 7} (ltb-false (suc x * 8 + 7) (length l) q) in
-        absurd (clash (eqb (field 8 l x 7) 0) (eq-eqb (field 8 l x 7) 0 z) (not_true_lem (eqb (field 8 l x 7) 0) e))
+        absurd (clash (eqb (field 8 l x 7) 0) (eq-eqb (field 8 l x 7) 0 z) (not-true (eqb (field 8 l x 7) 0) e))
 
 -- ---- one side
 module _ (l : List ℕ) (s : Side) where
@@ -133,7 +133,7 @@ module _ (l : List ℕ) where
 
   to_free : (p w : ℕ) (xs : List ℕ) → Chain free_step free_ok free_fin p w xs → FreeList l w xs
   to_free p w [] c = c.0
-  to_free p w (x ∷ xs) c = let f = spare_parts x c.1 in (c.0, f.0, not_true_lem (is_live_slot l x) f.1, to_free (suc x) (free_step x) xs c.2)
+  to_free p w (x ∷ xs) c = let f = spare_parts x c.1 in (c.0, f.0, not-true (is_live_slot l x) f.1, to_free (suc x) (free_step x) xs c.2)
 
   from_free : (p w : ℕ) (xs : List ℕ) → FreeList l w xs → Chain free_step free_ok free_fin p w xs
   from_free p w [] c = (c, refl)
@@ -214,7 +214,7 @@ linked_complete t l a =
     let cn = count_not (is_live_slot l) n in
     let sg = side_enough t l subscribers s (λ x h i. a.in_subs x i) in
     let dg = side_enough t l dependencies d (λ x h i. a.in_deps x i) in
-    let fg = free_enough l w (free_of l) f (λ x h i. a.in_free x h (not_true_lem (is_live_slot l x) i)) in
+    let fg = free_enough l w (free_of l) f (λ x h i. a.in_free x h (not-true (is_live_slot l x) i)) in
     let x = completes (step l subscribers) (ok l subscribers) (fin t l subscribers) (head t l subscribers) n (counted_in t) n s (omega arith) in
     let y = completes (step l dependencies) (ok l dependencies) (fin t l dependencies) (head t l dependencies) n (counted_in t) n d (omega arith) in
     let z = complete (free_step l) (free_ok l) (free_fin l) (n - lens t l subscribers) 0 w (free_of l) f (omega arith) in

@@ -7,7 +7,7 @@ use Prim.Native.Nat.{ℕ, zero, suc, ◌<◌, ◌≤◌}
 use native.Mathlib.Omega.{arith}
 use lib.Dec.{eqb, ltb, leb}
 use lib.ListN.{length}
-use borrow.Author.Tests.{eq-eqb, ne_eqb, eqb-true, eqb-false, ltb-true, lt-ltb, leb-true, le-leb, not_true_lem}
+use borrow.Author.Tests.{eq-eqb, ne_eqb, eqb-true, eqb-false, ltb-true, lt-ltb, leb-true, le-leb, not-true}
 use Rattle.primitive.specs.Rows.{field}
 use Rattle.trees.specs.Legal.{readable_in}
 use Rattle.lists.specs.Each.{both, either, pick}
@@ -164,7 +164,7 @@ module _ (kind gone f d s r : ℕ) (deps subs reads : List ℕ)
   is a b e = eqb-true a b e
 
   some : (a : ℕ) (xs : List ℕ) → (xs ≡ [] → a ≡ 0) → not (eqb a 0) ≡ true → xs ≡ [] → ⊥
-  some a xs h e q = eqb-false a 0 (not_true_lem (eqb a 0) e) (h q)
+  some a xs h e q = eqb-false a 0 (not-true (eqb a 0) e) (h q)
 
   computed_sound : kind ≡ 2 → computed_flags f d s ≡ true → State
   unfolding computed_flags

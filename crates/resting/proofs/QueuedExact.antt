@@ -6,7 +6,7 @@ use Prim.Native.Nat.{ℕ, ◌<◌, ◌≤◌}
 use native.Mathlib.Omega.{arith}
 use lib.Dec.{eqb, ltb, leb}
 use lib.ListN.{get_or, length, replicate, length-replicate, get_or-replicate, get_or-eq_default}
-use borrow.Author.Tests.{eq-eqb, ne_eqb, eqb-true, eqb-false, ltb-true, ltb-false, lt-ltb, leb-true, le-leb, not_true_lem}
+use borrow.Author.Tests.{eq-eqb, ne_eqb, eqb-true, eqb-false, ltb-true, ltb-false, lt-ltb, leb-true, le-leb, not-true}
 use Rattle.primitive.specs.Rows.{field}
 use Rattle.queue.specs.Queue.{queue_of}
 use Rattle.lists.specs.Sum.{count}
@@ -36,7 +36,7 @@ blank_clear x = at (ltb x 1024) refl
 module _ (gone f : ℕ) where
   on_live : waits_on gone f ≡ true → gone ≡ 0 → f ≡ 2 → ⊥
   unfolding waits_on
-  on_live e g = eqb-false f 2 (not_true_lem (eqb f 2) (rw (eq-eqb gone 0 g) at e))
+  on_live e g = eqb-false f 2 (not-true (eqb f 2) (rw (eq-eqb gone 0 g) at e))
 
   on_gone : waits_on gone f ≡ true → (gone ≡ 0 → ⊥) → f ≡ 0
   unfolding waits_on

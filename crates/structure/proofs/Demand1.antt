@@ -7,7 +7,7 @@ use mathlib.Core.Bool.{Bool, true, false, not}
 use mathlib.Core.List.{List}
 use Prim.Native.Nat.{ℕ, zero, suc, ◌+◌, ◌≤◌, ◌/◌}
 use native.Mathlib.Omega.{arith}
-use borrow.Author.Tests.{not_true_lem, not_false_lem}
+use borrow.Author.Tests.{not-true, not-false}
 use lib.IntN.{ℤ}
 use lib.ListN.{length}
 use Rattle.counting.specs.Counts.{carry_in}
@@ -75,7 +75,7 @@ module _ (N L : List ℕ) (W C G ws : List ℤ) where
   pub tables_refused : (answered.code ≡ 1) ↔ (((s : St) × Rep N L W C s × WellFormed s) → ⊥)
   unfolding table
   tables_refused = (
-    λ e p. clash ((exactly N L W C).1 p) (not_true_lem (well_formed_in N L W C) ((given_exactly 0).0 e).0),
+    λ e p. clash ((exactly N L W C).1 p) (not-true (well_formed_in N L W C) ((given_exactly 0).0 e).0),
     λ h. (given_exactly 0).1 (go h (well_formed_in N L W C) refl, λ j l. absurd (omega arith)),
   )
     where
@@ -93,7 +93,7 @@ module _ (N L : List ℕ) (W C G ws : List ℤ) where
   pub room_suffices : answered.code ≡ 0 → let a = command true (state_in N L W C) (length G / row_words) ws in SameAnswer G answered a × (a.st.stuck ≡ false)
   unfolding table
   room_suffices e =
-      let ok = not_false_lem (well_formed_in N L W C) (accepted_exactly.0 e 0) in
+      let ok = not-false (well_formed_in N L W C) (accepted_exactly.0 e 0) in
       let w = accepted_well_formed N L W C ok in
       let s = state_in N L W C in
       (command_same N L W C G ws s (accepted_represents N L W C ok) w refl, nothing_stuck s (length G / row_words) ws w refl)

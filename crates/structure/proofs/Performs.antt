@@ -7,7 +7,7 @@ use Prim.Native.Nat.{ℕ, ◌*◌, ◌≤◌}
 use native.Mathlib.Omega.{arith}
 use lib.IntN.{ℤ, pos, negsuc}
 use lib.ListN.{length, drop}
-use borrow.Author.Tests.{leb-false, not_true_lem}
+use borrow.Author.Tests.{leb-false, not-true}
 use Rattle.values.specs.declared.Value.{Value}
 use Rattle.values.specs.Values.{value}
 use Rattle.trees.specs.Trees.{Tree, constant, written, names}
@@ -150,6 +150,6 @@ module _ (x : State) (C l : List ℤ) (s : St) (rows : ℕ) (r : Sees [] x C s) 
         record { value = ap (λ (v : Value). v.word) (z.values.current (node_of n)); leaves = stills _ _ (settle_ring Still renews_still S (node_of n)) z }
     performs (dispose_of n) e h =
         let k = taken s rows w an_owner n (h 2) in
-        record { value = refl; leaves = stills _ _ (dispose_ring Still drops_still S (node_of n)) (dispose_shows g st [] x.values C (tab x.nodes x.links) S (node_of n) i k.0 (not_true_lem (readable (s.kind (node_of n))) k.1) r_s) }
+        record { value = refl; leaves = stills _ _ (dispose_ring Still drops_still S (node_of n)) (dispose_shows g st [] x.values C (tab x.nodes x.links) S (node_of n) i k.0 (not-true (readable (s.kind (node_of n))) k.1) r_s) }
     performs batch_start e h = record { value = refl; leaves = quiet_leaves l C _ _ refl (start_sees [] x C S r_s (leb-false most_depth s.depth (h 7))) }
     performs batch_end e h = record { value = refl; leaves = end_leaves g st C l x S i free refl r_s (fit batch_end e) }

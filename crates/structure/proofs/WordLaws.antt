@@ -10,7 +10,7 @@ use lib.Dec.{eqb, ltb}
 use lib.IntN.{ℤ}
 use lib.ListN.{length, get_or, take, drop, length-take, take-append-drop}
 use lib.Seq.{drop-append-le}
-use borrow.Author.Tests.{lt-ltb, le-ltb, ltb-true, le-leb, eq-eqb, ne_eqb, eqb-true, not_true_lem, not_false_lem}
+use borrow.Author.Tests.{lt-ltb, le-ltb, ltb-true, le-leb, eq-eqb, ne_eqb, eqb-true, not-true, not-false}
 use Rattle.primitive.specs.Words.{COUNT, USED, QUEUE, KIND, START, CELLS, LEVEL, DEP, node, link}
 use Rattle.queue.specs.Queue.{count as queueLength, entries, queue_of}
 use Rattle.trees.specs.Trees.{Tree, written, names}
@@ -68,10 +68,10 @@ mark_word (suc zero) h = refl
 mark_word (suc (suc w)) h = absurd (omega arith)
 
 pub unmarked : (w : ℕ) → not (eqb w 0) ≡ false → w ≡ 0
-unmarked w e = eqb-true w 0 (not_false_lem (eqb w 0) e)
+unmarked w e = eqb-true w 0 (not-false (eqb w 0) e)
 
 pub marked : (w : ℕ) → not (eqb w 0) ≡ true → w ≡ 0 → ⊥
-marked w e z = clash (eq-eqb w 0 z) (not_true_lem (eqb w 0) e)
+marked w e z = clash (eq-eqb w 0 z) (not-true (eqb w 0) e)
 
 pub zero_mark : (w : ℕ) → w ≡ 0 → not (eqb w 0) ≡ false
 zero_mark w e = ap (λ (x : ℕ). not (eqb x 0)) e

@@ -1,6 +1,6 @@
 -- `joined::joined` meets its contract. Assumes nothing.
 use Rattle.resting.specs.Joined.{joined_in}
-use borrow.Author.Tests.{not_false_lem, not_true_lem}
+use borrow.Author.Tests.{not-false, not-true}
 use borrow.Author.Rules.{rules}
 use Rattle.joined.proofs.joined.Statement.{statement}
 use Rattle.joined.proofs.joined.Tie as tie
@@ -12,7 +12,7 @@ returns : tie.Need-returns
 unfolding joined_in
 returns c = rw (
   ← c.before.linked.ensures,
-  not_true_lem c.before.linked.result c.if1.true,
+  not-true c.before.linked.result c.if1.true,
 )
 
 rest-requires : tie.Need-rest-requires
@@ -22,9 +22,9 @@ returns-2 : tie.Need-returns-2
 unfolding joined_in
 returns-2 c = rw (
   ← c.before.before.before.linked.ensures,
-  not_false_lem c.before.before.before.linked.result c.before.before.if1.false,
+  not-false c.before.before.before.linked.result c.before.before.if1.false,
   ← c.before.rest.ensures,
-  not_true_lem c.before.rest.result c.if2.true,
+  not-true c.before.rest.result c.if2.true,
 )
 
 named-requires : tie.Need-named-requires
@@ -34,11 +34,11 @@ returns-3 : tie.Need-returns-3
 unfolding joined_in
 returns-3 c = rw (
   ← c.before.before.before.before.before.linked.ensures,
-  not_false_lem c.before.before.before.before.before.linked.result c.before.before.before.before.if1.false,
+  not-false c.before.before.before.before.before.linked.result c.before.before.before.before.if1.false,
   ← c.before.before.before.rest.ensures,
-  not_false_lem c.before.before.before.rest.result c.before.before.if2.false,
+  not-false c.before.before.before.rest.result c.before.before.if2.false,
   ← c.before.named.ensures,
-  not_true_lem c.before.named.result c.if3.true,
+  not-true c.before.named.result c.if3.true,
 )
 
 queued-requires : tie.Need-queued-requires
@@ -48,11 +48,11 @@ returns-4 : tie.Need-returns-4
 unfolding joined_in
 returns-4 c = rw (
   ← c.before.before.before.before.before.before.linked.ensures,
-  not_false_lem c.before.before.before.before.before.before.linked.result c.before.before.before.before.before.if1.false,
+  not-false c.before.before.before.before.before.before.linked.result c.before.before.before.before.before.if1.false,
   ← c.before.before.before.before.rest.ensures,
-  not_false_lem c.before.before.before.before.rest.result c.before.before.before.if2.false,
+  not-false c.before.before.before.before.rest.result c.before.before.before.if2.false,
   ← c.before.before.named.ensures,
-  not_false_lem c.before.before.named.result c.before.if3.false,
+  not-false c.before.before.named.result c.before.if3.false,
   ← c.queued.ensures,
 )
 

@@ -5,7 +5,7 @@ use Rattle.resting.specs.Joined.{rests_at, rest_in}
 use mathlib.Core.Path.{◌≡◌, refl, sym, ◌∙◌}
 use Prim.Native.Nat.{◌-◌}
 use native.Mathlib.Omega.{arith}
-use borrow.Author.Tests.{not_true_lem, not_false_lem}
+use borrow.Author.Tests.{not-true, not-false}
 use borrow.Author.Rules.{rules}
 use Rattle.joined.proofs.rest.Statement.{statement}
 use Rattle.joined.proofs.rest.Tie as tie
@@ -36,7 +36,7 @@ returns c =
     let loop-test = c.before.before.loop-test in
     let turn = c.before.before.before.loop in
     let counted = c.before.before.before.before.counted in
-    rw (← counted.ensures) (sym (turn.invariant ∙ every_bad _ turn.n loop-test.true (sym rests_there.ensures ∙ not_true_lem _ if1.true)))
+    rw (← counted.ensures) (sym (turn.invariant ∙ every_bad _ turn.n loop-test.true (sym rests_there.ensures ∙ not-true _ if1.true)))
 
 loop-less : tie.Need-loop-smaller invariant-loop decreases-loop
 loop-less c = omega arith
@@ -47,7 +47,7 @@ loop-again c =
     let rests_there = c.before.rests_there in
     let loop-test = c.before.before.loop-test in
     let turn = c.before.before.before.loop in
-    turn.invariant ∙ every_more _ turn.n loop-test.true (sym rests_there.ensures ∙ not_false_lem _ if1.false)
+    turn.invariant ∙ every_more _ turn.n loop-test.true (sym rests_there.ensures ∙ not-false _ if1.false)
 
 returns-2 : tie.Need-returns-2 invariant-loop decreases-loop
 unfolding rest_in

@@ -1,6 +1,6 @@
 -- `joined::rests_at` meets its contract. Assumes nothing.
 use Rattle.resting.specs.Joined.{rests_at}
-use borrow.Author.Tests.{not_false_lem, not_true_lem}
+use borrow.Author.Tests.{not-false, not-true}
 use borrow.Author.Rules.{rules}
 use Rattle.joined.proofs.rests_at.Statement.{statement}
 use Rattle.joined.proofs.rests_at.Tie as tie
@@ -12,7 +12,7 @@ returns : tie.Need-returns
 unfolding rests_at
 returns c = rw (
   ← c.before.depends-at.ensures,
-  not_true_lem c.before.depends-at.result c.if1.true,
+  not-true c.before.depends-at.result c.if1.true,
 )
 
 owned-at-requires : tie.Need-owned-at-requires
@@ -22,9 +22,9 @@ returns-2 : tie.Need-returns-2
 unfolding rests_at
 returns-2 c = rw (
   ← c.before.before.before.depends-at.ensures,
-  not_false_lem c.before.before.before.depends-at.result c.before.before.if1.false,
+  not-false c.before.before.before.depends-at.result c.before.before.if1.false,
   ← c.before.owned_at.ensures,
-  not_true_lem c.before.owned_at.result c.if2.true,
+  not-true c.before.owned_at.result c.if2.true,
 )
 
 flagged-at-requires : tie.Need-flagged-at-requires
@@ -34,9 +34,9 @@ returns-3 : tie.Need-returns-3
 unfolding rests_at
 returns-3 c = rw (
   ← c.before.before.before.before.depends-at.ensures,
-  not_false_lem c.before.before.before.before.depends-at.result c.before.before.before.if1.false,
+  not-false c.before.before.before.before.depends-at.result c.before.before.before.if1.false,
   ← c.before.before.owned_at.ensures,
-  not_false_lem c.before.before.owned_at.result c.before.if2.false,
+  not-false c.before.before.owned_at.result c.before.if2.false,
   ← c.flagged-at.ensures,
 )
 

@@ -1,6 +1,6 @@
 -- `counts::room::carry` meets its contract. Assumes nothing.
 use Rattle.counting.specs.Counts.{carry_in, whole_rows, within_all}
-use borrow.Author.Tests.{eq-eqb, ne_eqb, not_true_lem, not_false_lem}
+use borrow.Author.Tests.{eq-eqb, ne_eqb, not-true, not-false}
 use borrow.Author.Rules.{rules}
 use Rattle.counts.proofs.room.carry.Statement.{statement}
 use Rattle.counts.proofs.room.carry.Tie as tie
@@ -39,7 +39,7 @@ returns-4 c = rw (
   eq-eqb _ _ c.before.before.before.if3.false,
   ← c.before.before.node-room.ensures,
   ← c.before.within.ensures,
-  not_true_lem c.before.within.result c.if4.true,
+  not-true c.before.within.result c.if4.true,
 )
 
 slot-room-requires : tie.Need-slot-room-requires
@@ -56,10 +56,10 @@ returns-5 c = rw (
   eq-eqb _ _ c.before.before.before.before.before.before.if3.false,
   ← c.before.before.before.before.before.node-room.ensures,
   ← c.before.before.before.before.within.ensures,
-  not_false_lem c.before.before.before.before.within.result c.before.before.before.if4.false,
+  not-false c.before.before.before.before.within.result c.before.before.before.if4.false,
   ← c.before.before.slot-room.ensures,
   ← c.before.within2.ensures,
-  not_true_lem c.before.within2.result c.if5.true,
+  not-true c.before.within2.result c.if5.true,
 )
 
 cell-room-requires : tie.Need-cell-room-requires
@@ -76,13 +76,13 @@ returns-6 c = rw (
   eq-eqb _ _ c.before.before.before.before.before.before.before.before.before.if3.false,
   ← c.before.before.before.before.before.before.before.before.node-room.ensures,
   ← c.before.before.before.before.before.before.before.within.ensures,
-  not_false_lem c.before.before.before.before.before.before.before.within.result c.before.before.before.before.before.before.if4.false,
+  not-false c.before.before.before.before.before.before.before.within.result c.before.before.before.before.before.before.if4.false,
   ← c.before.before.before.before.before.slot-room.ensures,
   ← c.before.before.before.before.within2.ensures,
-  not_false_lem c.before.before.before.before.within2.result c.before.before.before.if5.false,
+  not-false c.before.before.before.before.within2.result c.before.before.before.if5.false,
   ← c.before.before.cell_room.ensures,
   ← c.before.within3.ensures,
-  not_true_lem c.before.within3.result c.if6.true,
+  not-true c.before.within3.result c.if6.true,
 )
 
 mul-result : tie.Need-overflow-mul-result
@@ -96,13 +96,13 @@ returns-7 c = rw (
   eq-eqb _ _ c.before.before.before.before.before.before.before.before.before.if3.false,
   ← c.before.before.before.before.before.before.before.before.node-room.ensures,
   ← c.before.before.before.before.before.before.before.within.ensures,
-  not_false_lem c.before.before.before.before.before.before.before.within.result c.before.before.before.before.before.before.if4.false,
+  not-false c.before.before.before.before.before.before.before.within.result c.before.before.before.before.before.before.if4.false,
   ← c.before.before.before.before.before.slot-room.ensures,
   ← c.before.before.before.before.within2.ensures,
-  not_false_lem c.before.before.before.before.within2.result c.before.before.before.if5.false,
+  not-false c.before.before.before.before.within2.result c.before.before.before.if5.false,
   ← c.before.before.cell_room.ensures,
   ← c.before.within3.ensures,
-  not_false_lem c.before.within3.result c.if6.false,
+  not-false c.before.within3.result c.if6.false,
 )
 
 pub carry-spec : {M : Type 1} → statement M

@@ -1,6 +1,6 @@
 -- `described::formulas::formula` meets its contract. Assumes nothing.
 use Rattle.telling.specs.Formulas.{formula_in}
-use borrow.Author.Tests.{not_false_lem, not_true_lem}
+use borrow.Author.Tests.{not-false, not-true}
 use borrow.Author.Rules.{rules}
 use Rattle.described.proofs.formulas.formula.Statement.{statement}
 use Rattle.described.proofs.formulas.formula.Tie as tie
@@ -12,7 +12,7 @@ returns : tie.Need-returns
 unfolding formula_in
 returns c = rw (
   ← c.before.legal.ensures,
-  not_true_lem c.before.legal.result c.if1.true,
+  not-true c.before.legal.result c.if1.true,
 )
 
 reads-lower-requires : tie.Need-reads-lower-requires
@@ -22,9 +22,9 @@ returns-2 : tie.Need-returns-2
 unfolding formula_in
 returns-2 c = rw (
   ← c.before.before.before.legal.ensures,
-  not_false_lem c.before.before.before.legal.result c.before.before.if1.false,
+  not-false c.before.before.before.legal.result c.before.before.if1.false,
   ← c.before.reads_lower_lem.ensures,
-  not_true_lem c.before.reads_lower_lem.result c.if2.true,
+  not-true c.before.reads_lower_lem.result c.if2.true,
 )
 
 get-requires : tie.Need-get-requires
@@ -37,9 +37,9 @@ returns-3 : tie.Need-returns-3
 unfolding formula_in
 returns-3 c = rw (
   ← c.before.before.before.before.before.legal.ensures,
-  not_false_lem c.before.before.before.before.before.legal.result c.before.before.before.before.if1.false,
+  not-false c.before.before.before.before.before.legal.result c.before.before.before.before.if1.false,
   ← c.before.before.before.reads_lower_lem.ensures,
-  not_false_lem c.before.before.before.reads_lower_lem.result c.before.before.if2.false,
+  not-false c.before.before.before.reads_lower_lem.result c.before.before.if2.false,
   c.before.get.ensures,
   c.read_cells_lem.ensures,
 )

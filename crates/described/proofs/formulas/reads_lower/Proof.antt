@@ -3,7 +3,7 @@ use Rattle.described.proofs.FormulaLaws.{lower_start, lower_false, lower_true, l
 use Rattle.telling.specs.Formulas.{all_lower, reads_lower}
 use Rattle.trees.specs.Names.{named}
 use borrow.Author.Rules.{rules}
-use borrow.Author.Tests.{not_true_lem, not_false_lem}
+use borrow.Author.Tests.{not-true, not-false}
 use mathlib.Core.Path.{◌≡◌, sym, ◌∙◌}
 use native.Mathlib.Omega.{arith}
 use Prim.Native.Nat.{◌-◌, ◌≤◌}
@@ -26,7 +26,7 @@ cell-lower-requires : tie.Need-cell-lower-requires invariant-loop decreases-loop
 cell-lower-requires c κs = search rules
 
 returns : tie.Need-returns invariant-loop decreases-loop
-returns c = lower_false _ _ _ c.before.before.before.loop-test.true c.before.before.Cell-at.ensures c.before.cell-lower.ensures (not_true_lem c.before.cell-lower.result c.if1.true) ∙ c.before.before.before.before.loop.invariant.1
+returns c = lower_false _ _ _ c.before.before.before.loop-test.true c.before.before.Cell-at.ensures c.before.cell-lower.ensures (not-true c.before.cell-lower.result c.if1.true) ∙ c.before.before.before.before.loop.invariant.1
 
 add-i : tie.Need-overflow-add-i invariant-loop decreases-loop
 add-i c = omega arith
@@ -35,7 +35,7 @@ loop-less : tie.Need-loop-smaller invariant-loop decreases-loop
 loop-less c = omega arith
 
 loop-again : tie.Need-loop-preserved invariant-loop decreases-loop
-loop-again c = (omega arith, lower_true _ _ _ c.before.before.before.loop-test.true c.before.before.Cell-at.ensures c.before.cell-lower.ensures (not_false_lem c.before.cell-lower.result c.if1.false) ∙ c.before.before.before.before.loop.invariant.1)
+loop-again c = (omega arith, lower_true _ _ _ c.before.before.before.loop-test.true c.before.before.Cell-at.ensures c.before.cell-lower.ensures (not-false c.before.cell-lower.result c.if1.false) ∙ c.before.before.before.before.loop.invariant.1)
 
 returns-2 : tie.Need-returns-2 invariant-loop decreases-loop
 returns-2 c = sym (lower_done _ _ _ c.loop-test.false) ∙ c.before.loop.invariant.1

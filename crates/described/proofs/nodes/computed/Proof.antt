@@ -1,7 +1,7 @@
 -- `described::nodes::computed` meets its contract. Assumes nothing.
 use Rattle.described.proofs.LevelLaws.{kept_whole}
 use Rattle.telling.specs.Nodes.{computed_in}
-use borrow.Author.Tests.{not_false_lem, not_true_lem}
+use borrow.Author.Tests.{not-false, not-true}
 use borrow.Author.Rules.{rules}
 use Rattle.described.proofs.nodes.computed.Statement.{statement}
 use Rattle.described.proofs.nodes.computed.Tie as tie
@@ -13,7 +13,7 @@ returns : tie.Need-returns
 unfolding computed_in
 returns c = rw (
   ← c.before.stands-alone.ensures,
-  not_true_lem c.before.stands-alone.result c.if1.true,
+  not-true c.before.stands-alone.result c.if1.true,
 )
 
 own-cells-requires : tie.Need-own-cells-requires
@@ -26,10 +26,10 @@ returns-2 : tie.Need-returns-2
 unfolding computed_in
 returns-2 c = rw (
   ← c.before.before.before.before.stands-alone.ensures,
-  not_false_lem c.before.before.before.before.stands-alone.result c.before.before.before.if1.false,
+  not-false c.before.before.before.before.stands-alone.result c.before.before.before.if1.false,
   ← c.before.before.own_cells_lem.ensures,
   ← c.before.formula.ensures,
-  not_true_lem c.before.formula.result c.if2.true,
+  not-true c.before.formula.result c.if2.true,
 )
 
 height-requires : tie.Need-height-requires
@@ -40,7 +40,7 @@ level-kept-requires c κs = search rules
 
 returns-3 : tie.Need-returns-3
 unfolding computed_in
-returns-3 c = rw (← c.before.before.before.before.before.before.stands-alone.ensures, not_false_lem c.before.before.before.before.before.before.stands-alone.result c.before.before.before.before.before.if1.false, ← c.before.before.before.before.own_cells_lem.ensures, ← c.before.before.before.formula.ensures, not_false_lem c.before.before.before.formula.result c.before.before.if2.false) (kept_whole _ _ _ _ c.level-kept.ensures c.before.height.ensures)
+returns-3 c = rw (← c.before.before.before.before.before.before.stands-alone.ensures, not-false c.before.before.before.before.before.before.stands-alone.result c.before.before.before.before.before.if1.false, ← c.before.before.before.before.own_cells_lem.ensures, ← c.before.before.before.formula.ensures, not-false c.before.before.before.formula.result c.before.before.if2.false) (kept_whole _ _ _ _ c.level-kept.ensures c.before.height.ensures)
 
 pub computed-spec : {M : Type 1} → statement M
 computed-spec =

@@ -1,6 +1,6 @@
 -- `described::nodes::effect` meets its contract. Assumes nothing.
 use Rattle.telling.specs.Nodes.{effect_in}
-use borrow.Author.Tests.{not_false_lem, not_true_lem}
+use borrow.Author.Tests.{not-false, not-true}
 use borrow.Author.Rules.{rules}
 use Rattle.described.proofs.nodes.effect.Statement.{statement}
 use Rattle.described.proofs.nodes.effect.Tie as tie
@@ -12,7 +12,7 @@ returns : tie.Need-returns
 unfolding effect_in
 returns c = rw (
   ← c.before.scope.ensures,
-  not_true_lem c.before.scope.result c.if1.true,
+  not-true c.before.scope.result c.if1.true,
 )
 
 own-cells-requires : tie.Need-own-cells-requires
@@ -25,7 +25,7 @@ returns-2 : tie.Need-returns-2
 unfolding effect_in
 returns-2 c = rw (
   ← c.before.before.before.scope.ensures,
-  not_false_lem c.before.before.before.scope.result c.before.before.if1.false,
+  not-false c.before.before.before.scope.result c.before.before.if1.false,
   ← c.before.own_cells_lem.ensures,
   ← c.formula.ensures,
 )

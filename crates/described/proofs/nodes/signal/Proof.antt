@@ -1,6 +1,6 @@
 -- `described::nodes::signal` meets its contract. Assumes nothing.
 use Rattle.telling.specs.Nodes.{signal_in}
-use borrow.Author.Tests.{not_false_lem, not_true_lem}
+use borrow.Author.Tests.{not-false, not-true}
 use borrow.Author.Rules.{rules}
 use Rattle.described.proofs.nodes.signal.Statement.{statement}
 use Rattle.described.proofs.nodes.signal.Tie as tie
@@ -12,7 +12,7 @@ returns : tie.Need-returns
 unfolding signal_in
 returns c = rw (
   ← c.before.stands-alone.ensures,
-  not_true_lem c.before.stands-alone.result c.if1.true,
+  not-true c.before.stands-alone.result c.if1.true,
 )
 
 get-requires : tie.Need-get-requires
@@ -22,7 +22,7 @@ returns-2 : tie.Need-returns-2
 unfolding signal_in
 returns-2 c = rw (
   ← c.before.before.stands-alone.ensures,
-  not_false_lem c.before.before.stands-alone.result c.before.if1.false,
+  not-false c.before.before.stands-alone.result c.before.if1.false,
   ← c.get.ensures,
 )
 

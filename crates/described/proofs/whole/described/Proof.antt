@@ -3,7 +3,7 @@ use Prim.Native.Nat.{◌*◌}
 use lib.ListN.{length-take}
 use native.Mathlib.Omega.{arith}
 use Rattle.telling.specs.Whole.{described_in}
-use borrow.Author.Tests.{le-leb, lt-leb, not_false_lem, not_true_lem}
+use borrow.Author.Tests.{le-leb, lt-leb, not-false, not-true}
 use borrow.Author.Rules.{rules}
 use Rattle.described.proofs.whole.described.Statement.{statement}
 use Rattle.described.proofs.whole.described.Tie as tie
@@ -15,7 +15,7 @@ returns : tie.Need-returns
 unfolding described_in
 returns c = rw (
   ← c.before.carry.ensures,
-  not_true_lem c.before.carry.result c.if1.true,
+  not-true c.before.carry.result c.if1.true,
 )
 
 at-requires : tie.Need-at-requires
@@ -28,7 +28,7 @@ returns-2 : tie.Need-returns-2
 unfolding described_in
 returns-2 c = rw (
   ← c.before.before.before.before.carry.ensures,
-  not_false_lem c.before.before.before.before.carry.result c.before.before.before.if1.false,
+  not-false c.before.before.before.before.carry.result c.before.before.before.if1.false,
   ← c.before.before.at.ensures,
   ← c.before.node-room.ensures,
   lt-leb _ _ c.if2.true,
@@ -44,7 +44,7 @@ returns-3 : tie.Need-returns-3
 unfolding described_in
 returns-3 c = rw (
   ← c.before.before.before.before.before.before.before.carry.ensures,
-  not_false_lem c.before.before.before.before.before.before.before.carry.result c.before.before.before.before.before.before.if1.false,
+  not-false c.before.before.before.before.before.before.before.carry.result c.before.before.before.before.before.before.if1.false,
   ← c.before.before.before.before.before.at.ensures,
   ← c.before.before.before.before.node-room.ensures,
   le-leb _ _ c.before.before.before.if2.false,
@@ -66,7 +66,7 @@ returns-4 : tie.Need-returns-4
 unfolding described_in
 returns-4 c = rw (
   ← c.before.before.before.before.before.before.before.before.before.before.carry.ensures,
-  not_false_lem c.before.before.before.before.before.before.before.before.before.before.carry.result c.before.before.before.before.before.before.before.before.before.if1.false,
+  not-false c.before.before.before.before.before.before.before.before.before.before.carry.result c.before.before.before.before.before.before.before.before.before.if1.false,
   ← c.before.before.before.before.before.before.before.before.at.ensures,
   ← c.before.before.before.before.before.before.before.node-room.ensures,
   le-leb _ _ c.before.before.before.before.before.before.if2.false,
@@ -74,7 +74,7 @@ returns-4 c = rw (
   ← c.before.before.before.before.cell_room.ensures,
   le-leb _ _ c.before.before.before.if3.false,
   ← c.before.every-node.ensures,
-  not_true_lem c.before.every-node.result c.if4.true,
+  not-true c.before.every-node.result c.if4.true,
 )
 
 reserve-requires : tie.Need-reserve-requires
@@ -87,7 +87,7 @@ returns-5 : tie.Need-returns-5
 unfolding described_in
 returns-5 c = rw (
   ← c.before.before.before.before.before.before.before.before.before.before.before.before.carry.ensures,
-  not_false_lem c.before.before.before.before.before.before.before.before.before.before.before.before.carry.result c.before.before.before.before.before.before.before.before.before.before.before.if1.false,
+  not-false c.before.before.before.before.before.before.before.before.before.before.before.before.carry.result c.before.before.before.before.before.before.before.before.before.before.before.if1.false,
   ← c.before.before.before.before.before.before.before.before.before.before.at.ensures,
   ← c.before.before.before.before.before.before.before.before.before.node-room.ensures,
   le-leb _ _ c.before.before.before.before.before.before.before.before.if2.false,
@@ -95,7 +95,7 @@ returns-5 c = rw (
   ← c.before.before.before.before.before.before.cell_room.ensures,
   le-leb _ _ c.before.before.before.before.before.if3.false,
   ← c.before.before.before.every-node.ensures,
-  not_false_lem c.before.before.before.every-node.result c.before.before.if4.false,
+  not-false c.before.before.before.every-node.result c.before.before.if4.false,
   ← c.before.reserve.ensures,
   ← c.slot-room.ensures,
 )

@@ -5,7 +5,7 @@ use Rattle.resting.specs.Depends.{may_depend, depends_on}
 use mathlib.Core.Path.{◌≡◌, refl, sym, ◌∙◌}
 use Prim.Native.Nat.{◌-◌}
 use native.Mathlib.Omega.{arith}
-use borrow.Author.Tests.{not_true_lem, not_false_lem}
+use borrow.Author.Tests.{not-true, not-false}
 use borrow.Author.Rules.{rules}
 use Rattle.joined.proofs.depends.depends_on.Statement.{statement}
 use Rattle.joined.proofs.depends.depends_on.Tie as tie
@@ -54,7 +54,7 @@ returns-2 c =
     let loop-test = c.before.before.before.before.before.before.before.loop-test in
     let turn = c.before.before.before.before.before.before.before.before.loop in
     let a = c.before.before.before.before.before.before.before.before.before.before.before.args in
-    sym (turn.invariant ∙ deps_bad _ (may_depend a.nodes.now a.n) turn.left turn.at _ _ may-depend.result loop-test.true opened.ensures x.given.1 get.ensures may-depend.ensures (not_true_lem _ if1.true))
+    sym (turn.invariant ∙ deps_bad _ (may_depend a.nodes.now a.n) turn.left turn.at _ _ may-depend.result loop-test.true opened.ensures x.given.1 get.ensures may-depend.ensures (not-true _ if1.true))
 
 get-requires-2 : tie.Need-get-requires-2 invariant-loop decreases-loop
 get-requires-2 c κs = search rules
@@ -76,7 +76,7 @@ loop-again c =
     let loop-test = c.before.before.before.before.before.before.before.before.loop-test in
     let turn = c.before.before.before.before.before.before.before.before.before.loop in
     let a = c.before.before.before.before.before.before.before.before.before.before.before.before.args in
-    turn.invariant ∙ deps_more _ (may_depend a.nodes.now a.n) turn.left turn.at _ _ _ may-depend.result loop-test.true opened.ensures x.given.1 get.ensures may-depend.ensures (not_false_lem _ if1.false) get2.ensures
+    turn.invariant ∙ deps_more _ (may_depend a.nodes.now a.n) turn.left turn.at _ _ _ may-depend.result loop-test.true opened.ensures x.given.1 get.ensures may-depend.ensures (not-false _ if1.false) get2.ensures
 
 returns-3 : tie.Need-returns-3 invariant-loop decreases-loop
 unfolding depends_on

@@ -1,6 +1,6 @@
 -- `joined::depends::may_depend` meets its contract. Assumes nothing.
 use Rattle.resting.specs.Depends.{may_depend}
-use borrow.Author.Tests.{not_false_lem, not_true_lem}
+use borrow.Author.Tests.{not-false, not-true}
 use borrow.Author.Rules.{rules}
 use Rattle.joined.proofs.depends.may_depend.Statement.{statement}
 use Rattle.joined.proofs.depends.may_depend.Tie as tie
@@ -25,7 +25,7 @@ returns c = rw (
   ← c.before.before.before.readable.ensures,
   c.before.before.if1.true,
   ← c.before.reads_kind_lem.ensures,
-  not_true_lem c.before.reads_kind_lem.result c.if2.true,
+  not-true c.before.reads_kind_lem.result c.if2.true,
 )
 
 returns-2 : tie.Need-returns-2
@@ -36,7 +36,7 @@ returns-2 c = rw (
   ← c.before.before.before.readable.ensures,
   c.before.before.if1.true,
   ← c.before.reads_kind_lem.ensures,
-  not_false_lem c.before.reads_kind_lem.result c.if2.false,
+  not-false c.before.reads_kind_lem.result c.if2.false,
 )
 
 owns-kind-requires : tie.Need-owns-kind-requires
@@ -50,7 +50,7 @@ returns-3 c = rw (
   ← c.before.before.before.readable.ensures,
   c.before.before.if1.false,
   ← c.before.owns-kind.ensures,
-  not_true_lem c.before.owns-kind.result c.if3.true,
+  not-true c.before.owns-kind.result c.if3.true,
 )
 
 owner-is-requires : tie.Need-owner-is-requires
@@ -64,7 +64,7 @@ returns-4 c = rw (
   ← c.before.before.before.before.readable.ensures,
   c.before.before.before.if1.false,
   ← c.before.before.owns-kind.ensures,
-  not_false_lem c.before.before.owns-kind.result c.before.if3.false,
+  not-false c.before.before.owns-kind.result c.before.if3.false,
   ← c.owner_is_word.ensures,
 )
 

@@ -1,6 +1,6 @@
 -- `joined::linked::fits` meets its contract. Assumes nothing.
 use Rattle.resting.specs.Linked.{fits}
-use borrow.Author.Tests.{eq-eqb, ne_eqb, not_false_lem, not_true_lem}
+use borrow.Author.Tests.{eq-eqb, ne_eqb, not-false, not-true}
 use borrow.Author.Rules.{rules}
 use Rattle.joined.proofs.linked.fits.Statement.{statement}
 use Rattle.joined.proofs.linked.fits.Tie as tie
@@ -12,7 +12,7 @@ returns : tie.Need-returns
 unfolding fits
 returns c = rw (
   ← c.before.is_live.ensures,
-  not_true_lem c.before.is_live.result c.if1.true,
+  not-true c.before.is_live.result c.if1.true,
 )
 
 get-requires : tie.Need-get-requires
@@ -22,7 +22,7 @@ returns-2 : tie.Need-returns-2
 unfolding fits
 returns-2 c = rw (
   ← c.before.before.before.is_live.ensures,
-  not_false_lem c.before.before.before.is_live.result c.before.before.if1.false,
+  not-false c.before.before.before.is_live.result c.before.before.if1.false,
   ← c.before.get.ensures,
   ne_eqb _ _ c.if2.true,
 )
@@ -34,7 +34,7 @@ returns-3 : tie.Need-returns-3
 unfolding fits
 returns-3 c = rw (
   ← c.before.before.before.before.is_live.ensures,
-  not_false_lem c.before.before.before.before.is_live.result c.before.before.before.if1.false,
+  not-false c.before.before.before.before.is_live.result c.before.before.before.if1.false,
   ← c.before.before.get.ensures,
   eq-eqb _ _ c.before.if2.false,
   ← c.get2.ensures,

@@ -4,7 +4,7 @@ use Rattle.resting.specs.Linked.{walk}
 use mathlib.Core.Path.{◌≡◌, refl, sym, ◌∙◌}
 use Prim.Native.Nat.{◌-◌}
 use native.Mathlib.Omega.{arith}
-use borrow.Author.Tests.{not_true_lem, not_false_lem}
+use borrow.Author.Tests.{not-true, not-false}
 use borrow.Author.Rules.{rules}
 use Rattle.joined.proofs.linked.walk.Statement.{statement}
 use Rattle.joined.proofs.linked.walk.Tie as tie
@@ -38,7 +38,7 @@ returns-2 c =
     let if1 = c.before.before.if1 in
     let loop-test = c.before.before.before.loop-test in
     let turn = c.before.before.before.before.loop in
-    sym (turn.invariant ∙ walk_bad _ _ _ _ _ _ _ loop-test.true if1.false (sym fits2.ensures ∙ not_true_lem _ if2.true))
+    sym (turn.invariant ∙ walk_bad _ _ _ _ _ _ _ loop-test.true if1.false (sym fits2.ensures ∙ not-true _ if2.true))
 
 get-requires : tie.Need-get-requires invariant-loop decreases-loop
 get-requires c κs = search rules
@@ -57,7 +57,7 @@ loop-again c =
     let if1 = c.before.before.before.if1 in
     let loop-test = c.before.before.before.before.loop-test in
     let turn = c.before.before.before.before.before.loop in
-    turn.invariant ∙ walk_more _ _ _ _ _ _ _ _ loop-test.true if1.false (sym fits2.ensures ∙ not_false_lem _ if2.false) get.ensures
+    turn.invariant ∙ walk_more _ _ _ _ _ _ _ _ loop-test.true if1.false (sym fits2.ensures ∙ not-false _ if2.false) get.ensures
 
 returns-3 : tie.Need-returns-3 invariant-loop decreases-loop
 returns-3 c =

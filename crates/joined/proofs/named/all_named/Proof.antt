@@ -5,7 +5,7 @@ use mathlib.Core.Path.{◌≡◌, refl, sym, ◌∙◌}
 use Prim.Native.Nat.{◌+◌, ◌-◌}
 use native.Mathlib.Omega.{arith}
 use lib.ListN.{length}
-use borrow.Author.Tests.{not_true_lem, not_false_lem}
+use borrow.Author.Tests.{not-true, not-false}
 use borrow.Author.Rules.{rules}
 use Rattle.joined.proofs.named.all_named-written.Statement.{statement}
 use Rattle.joined.proofs.named.all_named-written.Tie as tie
@@ -53,7 +53,7 @@ returns c =
     let turn = c.before.before.before.before.before.before.before.before.before.loop in
     let slot-room = c.before.before.before.before.before.before.before.before.before.before.slot-room in
     let counted = c.before.before.before.before.before.before.before.before.before.before.before.counted in
-    sym (named_start _ _ _ _ _ counted.ensures ∙ turn.invariant.0 ∙ named_bad _ _ _ _ _ _ _ (counted.result - turn.n) (omega (arith, loop-test.true)) stamp-node.ensures get.ensures (rw (← slot-room.ensures) (sym links-stamped.ensures ∙ not_true_lem _ if1.true)))
+    sym (named_start _ _ _ _ _ counted.ensures ∙ turn.invariant.0 ∙ named_bad _ _ _ _ _ _ _ (counted.result - turn.n) (omega (arith, loop-test.true)) stamp-node.ensures get.ensures (rw (← slot-room.ensures) (sym links-stamped.ensures ∙ not-true _ if1.true)))
 
 loop-less : tie.Need-loop-smaller invariant-loop decreases-loop
 loop-less c = omega arith
@@ -68,7 +68,7 @@ loop-again c =
     let turn = c.before.before.before.before.before.before.before.before.before.loop in
     let slot-room = c.before.before.before.before.before.before.before.before.before.before.slot-room in
     let counted = c.before.before.before.before.before.before.before.before.before.before.before.counted in
-    (turn.invariant.0 ∙ named_more _ _ _ _ _ _ _ (counted.result - turn.n) (counted.result - (turn.n + 1)) (omega (arith, loop-test.true)) stamp-node.ensures get.ensures (rw (← slot-room.ensures) (sym links-stamped.ensures ∙ not_false_lem _ if1.false)) (omega arith), stamp-node.auto.1.1.0 ∙ turn.invariant.1)
+    (turn.invariant.0 ∙ named_more _ _ _ _ _ _ _ (counted.result - turn.n) (counted.result - (turn.n + 1)) (omega (arith, loop-test.true)) stamp-node.ensures get.ensures (rw (← slot-room.ensures) (sym links-stamped.ensures ∙ not-false _ if1.false)) (omega arith), stamp-node.auto.1.1.0 ∙ turn.invariant.1)
 
 same-length-2 : tie.Need-same-length-2 invariant-loop decreases-loop
 same-length-2 c =

@@ -5,7 +5,7 @@ use Rattle.resting.specs.Named.{stamped, links_stamped}
 use mathlib.Core.Path.{◌≡◌, refl, sym, ◌∙◌}
 use Prim.Native.Nat.{◌-◌}
 use native.Mathlib.Omega.{arith}
-use borrow.Author.Tests.{not_true_lem, not_false_lem}
+use borrow.Author.Tests.{not-true, not-false}
 use borrow.Author.Rules.{rules}
 use Rattle.joined.proofs.named.links_stamped.Statement.{statement}
 use Rattle.joined.proofs.named.links_stamped.Tie as tie
@@ -40,7 +40,7 @@ stamped-requires c κs = search rules
 
 returns-2 : tie.Need-returns-2 invariant-loop decreases-loop
 unfolding links_stamped
-returns-2 c = sym (c.before.before.before.before.before.before.before.before.loop.invariant ∙ deps_bad _ (stamped c.before.before.before.before.before.before.before.before.before.before.before.before.args.nodes.now c.before.before.before.before.before.before.before.before.before.before.before.before.args.seen.now c.before.before.before.before.before.before.before.before.before.before.before.before.args.v) c.before.before.before.before.before.before.before.before.loop.left c.before.before.before.before.before.before.before.before.loop.at _ _ c.before.stamped.result c.before.before.before.before.before.before.before.loop-test.true c.before.before.before.before.before.before.«open».ensures c.before.before.before.before.x.given.1 c.before.before.get.ensures c.before.stamped.ensures (not_true_lem _ c.if1.true))
+returns-2 c = sym (c.before.before.before.before.before.before.before.before.loop.invariant ∙ deps_bad _ (stamped c.before.before.before.before.before.before.before.before.before.before.before.before.args.nodes.now c.before.before.before.before.before.before.before.before.before.before.before.before.args.seen.now c.before.before.before.before.before.before.before.before.before.before.before.before.args.v) c.before.before.before.before.before.before.before.before.loop.left c.before.before.before.before.before.before.before.before.loop.at _ _ c.before.stamped.result c.before.before.before.before.before.before.before.loop-test.true c.before.before.before.before.before.before.«open».ensures c.before.before.before.before.x.given.1 c.before.before.get.ensures c.before.stamped.ensures (not-true _ c.if1.true))
 
 get-requires-2 : tie.Need-get-requires-2 invariant-loop decreases-loop
 get-requires-2 c κs = search rules
@@ -52,7 +52,7 @@ loop-less : tie.Need-loop-smaller invariant-loop decreases-loop
 loop-less c = omega arith
 
 loop-again : tie.Need-loop-preserved invariant-loop decreases-loop
-loop-again c = c.before.before.before.before.before.before.before.before.before.loop.invariant ∙ deps_more _ (stamped c.before.before.before.before.before.before.before.before.before.before.before.before.before.args.nodes.now c.before.before.before.before.before.before.before.before.before.before.before.before.before.args.seen.now c.before.before.before.before.before.before.before.before.before.before.before.before.before.args.v) c.before.before.before.before.before.before.before.before.before.loop.left c.before.before.before.before.before.before.before.before.before.loop.at _ _ _ c.before.before.stamped.result c.before.before.before.before.before.before.before.before.loop-test.true c.before.before.before.before.before.before.before.«open».ensures c.before.before.before.before.before.x.given.1 c.before.before.before.get.ensures c.before.before.stamped.ensures (not_false_lem _ c.before.if1.false) c.get2.ensures
+loop-again c = c.before.before.before.before.before.before.before.before.before.loop.invariant ∙ deps_more _ (stamped c.before.before.before.before.before.before.before.before.before.before.before.before.before.args.nodes.now c.before.before.before.before.before.before.before.before.before.before.before.before.before.args.seen.now c.before.before.before.before.before.before.before.before.before.before.before.before.before.args.v) c.before.before.before.before.before.before.before.before.before.loop.left c.before.before.before.before.before.before.before.before.before.loop.at _ _ _ c.before.before.stamped.result c.before.before.before.before.before.before.before.before.loop-test.true c.before.before.before.before.before.before.before.«open».ensures c.before.before.before.before.before.x.given.1 c.before.before.before.get.ensures c.before.before.stamped.ensures (not-false _ c.before.if1.false) c.get2.ensures
 
 returns-3 : tie.Need-returns-3 invariant-loop decreases-loop
 unfolding links_stamped

@@ -1,6 +1,6 @@
 -- `joined::queued::due` meets its contract. Assumes nothing.
 use Rattle.resting.specs.Queued.{due}
-use borrow.Author.Tests.{not_false_lem, not_true_lem}
+use borrow.Author.Tests.{not-false, not-true}
 use borrow.Author.Rules.{rules}
 use Rattle.joined.proofs.queued.due.Statement.{statement}
 use Rattle.joined.proofs.queued.due.Tie as tie
@@ -12,7 +12,7 @@ returns : tie.Need-returns
 unfolding due
 returns c = rw (
   ← c.before.may-wait.ensures,
-  not_true_lem c.before.may-wait.result c.if1.true,
+  not-true c.before.may-wait.result c.if1.true,
 )
 
 lives-requires : tie.Need-lives-requires
@@ -22,7 +22,7 @@ returns-2 : tie.Need-returns-2
 unfolding due
 returns-2 c = rw (
   ← c.before.before.before.may-wait.ensures,
-  not_false_lem c.before.before.before.may-wait.result c.before.before.if1.false,
+  not-false c.before.before.before.may-wait.result c.before.before.if1.false,
   ← c.before.lives.ensures,
   c.if2.true,
 )
@@ -31,7 +31,7 @@ returns-3 : tie.Need-returns-3
 unfolding due
 returns-3 c = rw (
   ← c.before.before.before.may-wait.ensures,
-  not_false_lem c.before.before.before.may-wait.result c.before.before.if1.false,
+  not-false c.before.before.before.may-wait.result c.before.before.if1.false,
   ← c.before.lives.ensures,
   c.if2.false,
 )

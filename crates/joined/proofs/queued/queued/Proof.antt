@@ -1,7 +1,7 @@
 -- `joined::queued::queued` meets its contract. Assumes nothing.
 use Rattle.resting.specs.Queued.{queued_in}
 use Rattle.resting.specs.Blank.{blank}
-use borrow.Author.Tests.{le-leb, lt-leb, not_false_lem, not_true_lem}
+use borrow.Author.Tests.{le-leb, lt-leb, not-false, not-true}
 use borrow.Author.Rules.{rules}
 use Rattle.joined.proofs.queued.queued.Statement.{statement}
 use Rattle.joined.proofs.queued.queued.Tie as tie
@@ -30,7 +30,7 @@ returns-2 c = rw (
   ← c.before.before.before.at2.ensures,
   le-leb _ _ c.before.before.if1.false,
   ← c.before.idle.ensures,
-  not_true_lem c.before.idle.result c.if2.true,
+  not-true c.before.idle.result c.if2.true,
 )
 
 counted-requires : tie.Need-counted-requires
@@ -43,7 +43,7 @@ returns-3 c = rw (
   ← c.before.before.before.before.before.at2.ensures,
   le-leb _ _ c.before.before.before.before.if1.false,
   ← c.before.before.before.idle.ensures,
-  not_false_lem c.before.before.before.idle.result c.before.before.if2.false,
+  not-false c.before.before.before.idle.result c.before.before.if2.false,
   ← c.before.counted.ensures,
   lt-leb _ _ c.if3.true,
 )
@@ -73,7 +73,7 @@ returns-4 c = rw (
   ← c.before.before.before.before.before.before.before.before.before.before.before.at2.ensures,
   le-leb _ _ c.before.before.before.before.before.before.before.before.before.before.if1.false,
   ← c.before.before.before.before.before.before.before.before.before.idle.ensures,
-  not_false_lem c.before.before.before.before.before.before.before.before.before.idle.result c.before.before.before.before.before.before.before.before.if2.false,
+  not-false c.before.before.before.before.before.before.before.before.before.idle.result c.before.before.before.before.before.before.before.before.if2.false,
   ← c.before.before.before.before.before.before.before.counted.ensures,
   le-leb _ _ c.before.before.before.before.before.before.if3.false,
 )
@@ -88,7 +88,7 @@ returns-5 c = rw (
   ← c.before.before.before.before.before.before.before.before.before.before.before.before.at2.ensures,
   le-leb _ _ c.before.before.before.before.before.before.before.before.before.before.before.if1.false,
   ← c.before.before.before.before.before.before.before.before.before.before.idle.ensures,
-  not_false_lem c.before.before.before.before.before.before.before.before.before.before.idle.result c.before.before.before.before.before.before.before.before.before.if2.false,
+  not-false c.before.before.before.before.before.before.before.before.before.before.idle.result c.before.before.before.before.before.before.before.before.before.if2.false,
   ← c.before.before.before.before.before.before.before.before.counted.ensures,
   le-leb _ _ c.before.before.before.before.before.before.before.if3.false,
 )

@@ -4,7 +4,7 @@ use mathlib.Core.Path.{◌≡◌, refl, sym, ◌∙◌}
 use Prim.Native.Nat.{◌+◌, ◌-◌}
 use native.Mathlib.Omega.{arith}
 use lib.ListN.{length}
-use borrow.Author.Tests.{not_true_lem, not_false_lem}
+use borrow.Author.Tests.{not-true, not-false}
 use borrow.Author.Rules.{rules}
 use Rattle.joined.proofs.queued.scan.Statement.{statement}
 use Rattle.joined.proofs.queued.scan.Tie as tie
@@ -40,7 +40,7 @@ returns c =
     let loop-test = c.before.before.before.loop-test in
     let turn = c.before.before.before.before.loop in
     let length = c.before.before.before.before.before.length in
-    sym (sym (scan_start _ _ _ _ length.ensures) ∙ turn.invariant.0 ∙ scan_bad _ _ _ _ _ entry.ensures (length.result - turn.i) (omega (arith, loop-test.true)) (sym may-wait.ensures ∙ not_true_lem _ if1.true))
+    sym (sym (scan_start _ _ _ _ length.ensures) ∙ turn.invariant.0 ∙ scan_bad _ _ _ _ _ entry.ensures (length.result - turn.i) (omega (arith, loop-test.true)) (sym may-wait.ensures ∙ not-true _ if1.true))
 
 at-requires : tie.Need-at-requires invariant-loop decreases-loop
 at-requires c κs = search rules
@@ -60,7 +60,7 @@ returns-2 c =
     let loop-test = c.before.before.before.before.before.before.loop-test in
     let turn = c.before.before.before.before.before.before.before.loop in
     let length = c.before.before.before.before.before.before.before.before.length in
-    sym (sym (scan_start _ _ _ _ length.ensures) ∙ turn.invariant.0 ∙ scan_seen _ _ _ _ _ entry.ensures (length.result - turn.i) (omega (arith, loop-test.true)) (sym may-wait.ensures ∙ not_false_lem _ if1.false) (λ q. if2.true (at.ensures ∙ q)))
+    sym (sym (scan_start _ _ _ _ length.ensures) ∙ turn.invariant.0 ∙ scan_seen _ _ _ _ _ entry.ensures (length.result - turn.i) (omega (arith, loop-test.true)) (sym may-wait.ensures ∙ not-false _ if1.false) (λ q. if2.true (at.ensures ∙ q)))
 
 lives-requires : tie.Need-lives-requires invariant-loop decreases-loop
 lives-requires c κs = search rules
@@ -92,7 +92,7 @@ returns-3 c =
     let loop-test = c.before.before.before.before.before.before.before.before.before.before.loop-test in
     let turn = c.before.before.before.before.before.before.before.before.before.before.before.loop in
     let length = c.before.before.before.before.before.before.before.before.before.before.before.before.length in
-    sym (sym (scan_start _ _ _ _ length.ensures) ∙ turn.invariant.0 ∙ scan_broke _ _ _ _ _ entry.ensures (length.result - turn.i) (omega (arith, loop-test.true)) (sym may-wait.ensures ∙ not_false_lem _ if1.false) (sym at.ensures ∙ if2.false) (rw (← lives.ensures) (sym pay.ensures ∙ enum_told.given.1)))
+    sym (sym (scan_start _ _ _ _ length.ensures) ∙ turn.invariant.0 ∙ scan_broke _ _ _ _ _ entry.ensures (length.result - turn.i) (omega (arith, loop-test.true)) (sym may-wait.ensures ∙ not-false _ if1.false) (sym at.ensures ∙ if2.false) (rw (← lives.ensures) (sym pay.ensures ∙ enum_told.given.1)))
 
 put-requires : tie.Need-put-requires invariant-loop decreases-loop
 put-requires c κs = search rules
@@ -117,7 +117,7 @@ loop-again c =
     let loop-test = c.before.before.before.before.before.before.before.before.before.before.before.before.before.before.before.loop-test in
     let turn = c.before.before.before.before.before.before.before.before.before.before.before.before.before.before.before.before.loop in
     let length = c.before.before.before.before.before.before.before.before.before.before.before.before.before.before.before.before.before.length in
-    (turn.invariant.0 ∙ scan_turn _ _ _ _ _ entry.ensures (length.result - turn.i) (length.result - (turn.i + 1)) _ _ _ _ (omega (arith, loop-test.true)) (sym may-wait.ensures ∙ not_false_lem _ if1.false) (sym at.ensures ∙ if2.false) lives.ensures pay.ensures m.given.1 put.ensures (omega arith), put.auto.0 ∙ turn.invariant.1)
+    (turn.invariant.0 ∙ scan_turn _ _ _ _ _ entry.ensures (length.result - turn.i) (length.result - (turn.i + 1)) _ _ _ _ (omega (arith, loop-test.true)) (sym may-wait.ensures ∙ not-false _ if1.false) (sym at.ensures ∙ if2.false) lives.ensures pay.ensures m.given.1 put.ensures (omega arith), put.auto.0 ∙ turn.invariant.1)
 
 same-length-4 : tie.Need-same-length-4 invariant-loop decreases-loop
 same-length-4 c =
