@@ -163,6 +163,10 @@ def convert(crate, path, fn, opened, said):
                 continue
             var = c[1]
             inner = rewrite(fn, rest[c.end():], place, said, var)
+            # A test of `!x` says of x itself what it says.
+            atom = r'(?:[^\s()]+|\((?:[^()]|\([^()]*\))*\))'
+            inner = re.sub(r'not-(?:true|false) %s (c\.(?:if|loop)\S*-not-\S*\.(?:true|false))(?![^\s(){};,])' % atom, r'\1', inner)
+            inner = re.sub(r'\((c\.[^\s()]+)\)', r'\1', inner)
             answers.append('\n'.join(['pub %s : goal.%s' % (new, new)] + unf + ['%s c =%s%s' % (new, c[3] if c[3] else ' ', inner)]))
         else:
             loop = fn.loops.get(norm(m[5]))
