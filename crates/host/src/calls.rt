@@ -31,8 +31,7 @@ fn put_reply(reply: &mut [i64], code: u64, value: i64, runs: u64)
 }
 
 // 1, and nothing is touched, where the lengths do not carry capacities; else 0.
-#[unsafe(no_mangle)]
-pub extern "C" fn simmer_empty(
+pub fn simmer_empty(
     nodes: &mut [u64],
     links: &mut [u64],
     values: &mut [i64],
@@ -44,8 +43,7 @@ pub extern "C" fn simmer_empty(
 }
 
 // The refusal number, which is the reply's first word too; its runs are the first rows of the log.
-#[unsafe(no_mangle)]
-pub extern "C" fn simmer_command(
+pub fn simmer_command(
     nodes: &mut [u64],
     links: &mut [u64],
     values: &mut [i64],
@@ -95,8 +93,7 @@ fn put_many(reply: &mut [i64], why: u64, used: u64, done: u64, rows: u64)
 }
 
 // Why it stopped, which is the reply's first word too; behind it the words used, the commands done and the rows written.
-#[unsafe(no_mangle)]
-pub extern "C" fn simmer_commands(
+pub fn simmer_commands(
     nodes: &mut [u64],
     links: &mut [u64],
     values: &mut [i64],

@@ -1,6 +1,6 @@
 #![tactic(auto)]
 
-// What a host links: document 01's engine behind C's calls. A slice crosses as a pointer and a length in words.
+// The calls of a host: document 01's engine behind lent words. `host_c` gives each of these functions to C under the same name.
 // No state, no allocation, nothing printed; every function takes any numbers and any words.
 pub mod calls;
 pub mod sizes;

@@ -20,37 +20,32 @@ fn words_for(most: u64, header: u64, each: u64, n: u64) -> u64
     (header + n) * each
 }
 
-#[unsafe(no_mangle)]
-pub extern "C" fn simmer_node_words(nodes: u64) -> u64
+pub fn simmer_node_words(nodes: u64) -> u64
     ensures { result ≡ node_words_of nodes }
 {
     words_for(MOST_NODES, 1, 16, nodes)
 }
 
-#[unsafe(no_mangle)]
-pub extern "C" fn simmer_link_words(slots: u64) -> u64
+pub fn simmer_link_words(slots: u64) -> u64
     ensures { result ≡ link_words_of slots }
 {
     words_for(MOST_SLOTS, 1, 8, slots)
 }
 
-#[unsafe(no_mangle)]
-pub extern "C" fn simmer_value_words(nodes: u64) -> u64
+pub fn simmer_value_words(nodes: u64) -> u64
     ensures { result ≡ value_words_of nodes }
 {
     words_for(MOST_NODES, 0, 4, nodes)
 }
 
-#[unsafe(no_mangle)]
-pub extern "C" fn simmer_cell_words(cells: u64) -> u64
+pub fn simmer_cell_words(cells: u64) -> u64
     ensures { result ≡ cell_words_of cells }
 {
     words_for(MOST_CELL_ROOM, 0, 2, cells)
 }
 
 // No command wants more rows than there are nodes.
-#[unsafe(no_mangle)]
-pub extern "C" fn simmer_log_words(rows: u64) -> u64
+pub fn simmer_log_words(rows: u64) -> u64
     ensures { result ≡ log_words_of rows }
 {
     words_for(MOST_NODES, 0, 2, rows)
