@@ -119,6 +119,7 @@ module _ (s : St) (rows : ℕ) (w : WellFormed s) where
 
   readable_known : (ns : List ℕ) → all_readable v ns ≡ true → (m : ℕ) → In m ns → (m < s.size) × (readable (s.kind m) ≡ true)
   unfolding all_readable
+  readable_known [] e m x'' = elim x'' [ ]
   readable_known (n ∷ ns) e m (inl q) = subst (λ (x : ℕ). (x < s.size) × (readable (s.kind x) ≡ true)) (sym q) (known readable (pos n) (and_both (is_a v readable (pos n)) (all_readable v ns) e).0)
   readable_known (n ∷ ns) e m (inr j) = readable_known ns (and_both (is_a v readable (pos n)) (all_readable v ns) e).1 m j
 

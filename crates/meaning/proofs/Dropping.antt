@@ -538,6 +538,7 @@ module _ (g : Given) (st : Static g) where
             y.1 (same k (subst (In k) x.1 y.0) ∙ sym (same l (subst (In l) x.1 (i.lists.live_in_subs l lv)))))
           where
             same : {a : ℕ} (k : ℕ) → In k (a ∷ []) → k ≡ a
+            same k (inr x') = elim x' [ ]
             same k (inl e) = e
 
         go : ComputedFlags ((cut s l).fl (s.dep l)) ((cut s l).done (s.dep l)) (s.subs (s.dep l)) → ComputedFlags ((cut s l).fl (s.dep l)) ((cut s l).done (s.dep l)) ((cut s l).subs (s.dep l))
@@ -650,6 +651,7 @@ module _ (g : Given) (st : Static g) where
     i_begun = gone_inside g X (set_fl (rewind s x) x f0) x (flags_inside g X (rewind s x) x (rewind_inside g X s x (widen g nobody X s (λ n z. absurd z) i) (inr refl)) (inr refl) f0 (λ q. refl)) (inr refl) r
 
     away : (m : ℕ) → Strict x m → X m → ⊥
+    away m p (inl x'') = elim x'' [ ]
     away m p (inr q) = p.1 q
 
     purged : Purged X begun x emptied
@@ -740,6 +742,7 @@ module _ (g : Given) (st : Static g) where
       p_rests = purged.inside.rests p p_low (λ z. not_x z)
         where
           not_x : X p → ⊥
+          not_x (inl x'') = elim x'' [ ]
           not_x (inr q) = p_other q
 
       not_read : readable (g.kind (t.dep l)) ≡ false
@@ -780,6 +783,7 @@ module _ (g : Given) (st : Static g) where
           ∙ none_nil (remove l (t.subs x)) (λ k j. let y = remove_in k l (t.subs x) j in y.1 (one k y.0 ∙ sym (one l (subst (In l) (sym e) (inl refl)))))
         where
           same : {a : ℕ} (k : ℕ) → In k (a ∷ []) → k ≡ a
+          same {a = a} k (inr x'') = elim x'' [ ]
           same k (inl q) = q
 
           first : (k : ℕ) → In k (s.subs x) → (gn : Bool) → s.gone x ≡ gn → (ow : Option ℕ) → g.owner x ≡ ow → k ≡ head_or (s.subs x)

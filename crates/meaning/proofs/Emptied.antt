@@ -63,6 +63,7 @@ module _ (r : Room) where
   free_in l i = go (below_in l r.slots [] i)
     where
       go : (l < r.slots) ⊎ In l [] → l < r.slots
+      go (inr x') = elim x' [ ]
       go (inl a) = a
 
   pub empty_well_formed : capacities r ≡ true → WellFormed (empty r)

@@ -104,6 +104,7 @@ module _ {ℓ} {A : Type ℓ} (f : ℕ → A) (n : ℕ) (v : A) where
 
 -- ---- lists
 pub in_left : (n : ℕ) (xs ys : List ℕ) → In n xs → In n (xs ++ ys)
+in_left n [] ys x' = elim x' [ ]
 in_left n (x ∷ xs) ys (inl e) = inl e
 in_left n (x ∷ xs) ys (inr i) = inr (in_left n xs ys i)
 

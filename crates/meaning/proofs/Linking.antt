@@ -86,6 +86,7 @@ module _ (g : Given) (X : Set) (s : St) (d u v l : ℕ) (ls : List ℕ) (i : Ins
       (λ q j. in_cases k (s.subs d) (l ∷ []) j (λ a. inl (subst (λ (z : ℕ). In k (s.subs z)) (sym q) a)) (λ a. inr (one a, q))) (λ q j. inl j)
     where
       one : In k (l ∷ []) → k ≡ l
+      one (inr x') = elim x' [ ]
       one (inl q) = q
 
   deps_at : deps t u ≡ (s.done u ++ l ∷ []) ++ s.rest u
@@ -122,6 +123,7 @@ module _ (g : Given) (X : Set) (s : St) (d u v l : ℕ) (ls : List ℕ) (i : Ins
       (λ q. inl (subst (In k) (deps_off w q) j))
     where
       one : In k (l ∷ []) → k ≡ l
+      one (inr x') = elim x' [ ]
       one (inl q) = q
 
   dep_new : (k : ℕ) → k ≡ l → t.dep k ≡ d
@@ -208,6 +210,7 @@ module _ (g : Given) (X : Set) (s : St) (d u v l : ℕ) (ls : List ℕ) (i : Ins
       last xs a n = once_both xs (l ∷ []) a (λ j. j, tt) (λ x j k. at x j k)
         where
           at : (x : ℕ) → In x xs → In x (l ∷ []) → ⊥
+          at x j (inr x'') = elim x'' [ ]
           at x j (inl q) = n (subst (λ (z : ℕ). In z xs) q j)
 
       once_subs : (w : ℕ) → Once (t.subs w)
@@ -223,6 +226,7 @@ module _ (g : Given) (X : Set) (s : St) (d u v l : ℕ) (ls : List ℕ) (i : Ins
           (λ q. subst Once (sym (deps_off w q)) (o.deps_once w))
         where
           at : (x : ℕ) → In x (l ∷ []) → In x (s.rest u) → ⊥
+          at x (inr x3) k = elim x3 [ ]
           at x (inl q) k = not_in_deps u (in_right l (s.done u) (s.rest u) (subst (λ (z : ℕ). In z (s.rest u)) q k))
 
   pub insert_inside : Inside g (also (also X d) u) t

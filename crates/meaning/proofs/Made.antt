@@ -116,6 +116,7 @@ module _ (s : St) (w : WellFormed s) (k : Kind) (t : Tree) (b : Named) (v : Valu
     p_rests = i.rests p low off
       where
         off : also nobody n p → ⊥
+        off (inl x') = elim x' [ ]
         off (inr q) = other q
 
     -- ---- there is a slot
@@ -148,6 +149,7 @@ module _ (s : St) (w : WellFormed s) (k : Kind) (t : Tree) (b : Named) (v : Valu
         (λ e. rests_paid g st (also nobody n) M m i h (i.rests m h (off (eqb-false m n e))))
       where
         off : {m : ℕ} → (m ≡ n → ⊥) → also nobody n m → ⊥
+        off f (inl x') = elim x' [ ]
         off f (inr q) = f q
 
     unspent : (M.stuck || spent M) ≡ s.stuck

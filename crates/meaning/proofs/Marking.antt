@@ -33,6 +33,7 @@ rev_in x (y ∷ xs) ys j = go (rev_in x xs (y ∷ ys) j)
     go (inr (inr a)) = inr a
 
 in_rev : (x : ℕ) (xs ys : List ℕ) → In x xs ⊎ In x ys → In x (reverse_aux xs ys)
+in_rev x [] ys (inl x3) = elim x3 [ ]
 in_rev x [] ys (inr j) = j
 in_rev x (y ∷ xs) ys (inl (inl e)) = in_rev x xs (y ∷ ys) (inr (inl e))
 in_rev x (y ∷ xs) ys (inl (inr j)) = in_rev x xs (y ∷ ys) (inl j)
@@ -54,6 +55,7 @@ calm_out (e ∷ c) f n h = calm_out c (up f e (with_watching (f e) false)) n (λ
 
 calm_in : (c : List ℕ) (f : ℕ → Named) (n : ℕ) → Once c → In n c → calm c f n ≡ with_watching (f n) false
 unfolding calm
+calm_in [] f n o x'' = elim x'' [ ]
 calm_in (e ∷ c) f n o (inl q) =
     calm_out c (up f e (with_watching (f e) false)) n (λ i. o.0 (subst (λ (z : ℕ). In z c) q i))
     ∙ ap (up f e (with_watching (f e) false)) q ∙ up_same f e (with_watching (f e) false) ∙ ap (λ (z : ℕ). with_watching (f z) false) (sym q)
@@ -144,6 +146,7 @@ module _ (g : Given) (st : Static g) (s : St) (i : Inside g nobody s) where
 
     chain_in : (k : ℕ) (e : ℕ) → e ≤ u → Awake e → (x : ℕ) → In x (chain k g.owner f e) → Awake x × (x ≤ e)
     unfolding chain
+    chain_in zero e le w x (inr j) = elim j [ ]
     chain_in zero e le w x (inl q) = (subst Awake (sym q) w, omega arith)
     chain_in (suc k) e le w x (inl q) = (subst Awake (sym q) w, omega arith)
     chain_in (suc k) e le w x (inr j) = go (λ o a lt b. chain_in k o (omega arith) b x a) (g.owner e) refl j
@@ -308,6 +311,7 @@ module _ (g : Given) (st : Static g) (s : St) (i : Inside g nobody s) where
       in_q n j a b = in_cases n s.queue (reverse c) j a (λ z. go b (rev_in n c [] z))
         where
           go : {C : Type 0} → (In n c → C) → In n c ⊎ In n [] → C
+          go b (inr x') = elim x' [ ]
           go b (inl y) = b y
 
       q_new : (n : ℕ) → In n c → In n q
@@ -317,6 +321,7 @@ module _ (g : Given) (st : Static g) (s : St) (i : Inside g nobody s) where
       q_once = once_both s.queue (reverse c) i.once (rev_once c [] c_once tt (λ x a b. b)) (λ x a b. go x a (rev_in x c [] b))
         where
           go : (x : ℕ) → In x s.queue → In x c ⊎ In x [] → ⊥
+          go x a (inr x'') = elim x'' [ ]
           go x a (inl y) = (c_in x y).apart a
 
       q_effects : (n : ℕ) → In n q → (n < g.size) × (g.kind n ≡ effect)

@@ -28,6 +28,7 @@ remove_in x l (y ∷ ys) i =
 
 pub in_remove : (x l : ℕ) (xs : List ℕ) → In x xs → (x ≡ l → ⊥) → In x (remove l xs)
 unfolding remove
+in_remove x l [] i h = elim i [ ]
 in_remove x l (y ∷ ys) i h =
     let rec : In x ys → In x (remove l ys) = λ j. in_remove x l ys j h in
     branch (λ (z : List ℕ). In x z) (eqb y l) (λ e. other rec (eqb-true y l e) i) (λ e. both rec i)
@@ -72,6 +73,7 @@ remove_shorter l (x ∷ xs) =
 
 pub remove_takes : (l : ℕ) (xs : List ℕ) → In l xs → length (remove l xs) < length xs
 unfolding remove
+remove_takes l [] x' = elim x' [ ]
 remove_takes l (x ∷ xs) (inl e) =
     let h = remove_shorter l xs in
     branch (λ (z : List ℕ). length z < suc (length xs)) (eqb x l) (λ q. omega arith) (λ q. absurd (eqb-false x l q (sym e)))
@@ -127,6 +129,7 @@ once_right [] ys o = o
 once_right (x ∷ xs) ys o = once_right xs ys o.1
 
 pub once_apart : (xs ys : List ℕ) → Once (xs ++ ys) → (x : ℕ) → In x xs → In x ys → ⊥
+once_apart [] ys o x x5 j = elim x5 [ ]
 once_apart (y ∷ xs) ys o x (inl e) j = o.0 (in_right y xs ys (subst (λ (z : ℕ). In z ys) e j))
 once_apart (y ∷ xs) ys o x (inr i) j = once_apart xs ys o.1 x i j
 
@@ -252,6 +255,7 @@ module _ (kind : ℕ → Kind) (dep : ℕ → ℕ) where
 
   pub reads_in : (x : ℕ) (xs : List ℕ) → In x xs → readable (kind (dep x)) ≡ true → In x (read_links kind dep xs)
   unfolding read_links
+  reads_in x [] i r = elim i [ ]
   reads_in x (y ∷ ys) i r =
       let rec : In x ys → In x (read_links kind dep ys) = λ j. reads_in x ys j r in
       branch (λ (z : List ℕ). In x z) (readable (kind (dep y))) (λ e. both rec i) (λ e. other rec e i)
@@ -266,6 +270,7 @@ module _ (kind : ℕ → Kind) (dep : ℕ → ℕ) where
 
   pub reads_sub : (x : ℕ) (xs : List ℕ) → In x (read_links kind dep xs) → In x xs
   unfolding read_links
+  reads_sub x [] i = elim i [ ]
   reads_sub x (y ∷ ys) i =
       let rec : In x (read_links kind dep ys) → In x ys = λ j. reads_sub x ys j in
       branch (λ (z : List ℕ). In x z → In x (y ∷ ys)) (readable (kind (dep y))) (λ e. both rec) (λ e j. inr (rec j)) i

@@ -171,6 +171,7 @@ module _ (s : St) (rows : ℕ) (w : WellFormed s) where
       }
     where
       one : (m : ℕ) → In m (s.size ∷ []) → m ≡ s.size
+      one m (inr x') = elim x' [ ]
       one m (inl q) = q
 
   -- ---- a dispose

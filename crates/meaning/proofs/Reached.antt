@@ -217,11 +217,13 @@ module _ (s : St) (d : ℕ) where
   reached_marked f g u (near l i q e) = seen (g.by l i)
     where
       seen : Done s f [] l → (f u).pending ≡ true
+      seen (inl x'') = elim x'' [ ]
       seen (inr c) = or_one (f u).dirty (f u).pending (subst (λ (x : ℕ). unclean (f x) ≡ true) q c) (g.dirt u ∙ or_left (s.fl u).dirty (s.fl u).pending e)
   reached_marked f g u (far l m r c i q e) =
       seen (g.past l m (reached_marked f g m r) (or_right (s.fl m).dirty (s.fl m).pending (clean_before m r)) c i)
     where
       seen : Done s f [] l → (f u).pending ≡ true
+      seen (inl x'') = elim x'' [ ]
       seen (inr c) = or_one (f u).dirty (f u).pending (subst (λ (x : ℕ). unclean (f x) ≡ true) q c) (g.dirt u ∙ or_left (s.fl u).dirty (s.fl u).pending e)
 
   module _ (goes : (propagate s d).stuck ≡ false) where

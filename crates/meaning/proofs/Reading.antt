@@ -201,6 +201,7 @@ module _ (g : Given) (st : Static g) where
           last_read d h k j = in_cases k (s.done u) (l ∷ []) j (h k) (λ z. here z)
             where
               here : In k (l ∷ []) → readable (g.kind (s.dep k)) ≡ true
+              here (inr x3) = elim x3 [ ]
               here (inl z) = ap (λ (x : ℕ). readable (g.kind (s.dep x))) z ∙ ap (λ (x : ℕ). readable (g.kind x)) (eqb-true (s.dep l) m q) ∙ m_low.0
 
       module _ (i : ℕ) (s : St) (v : ℕ) (d : During X u s₀ i s) (lt : i < reads_of u) (clean : s.fl m ≡ f1) where
@@ -259,6 +260,7 @@ module _ (g : Given) (st : Static g) where
             (λ z. here k z)) (λ z. refl) refl
           where
             here : (k : ℕ) → In k (l ∷ []) → readable (g.kind (up s.dep l m k)) ≡ true
+            here k (inr x'') = elim x'' [ ]
             here k (inl z) = ap (λ (x : ℕ). readable (g.kind (up s.dep l m x))) z ∙ ap (λ (x : ℕ). readable (g.kind x)) (up_same s.dep l m) ∙ m_low.0
 
             in_x : (n : ℕ) → also (also X m) u n → also X m n

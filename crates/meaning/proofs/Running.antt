@@ -109,16 +109,19 @@ module _ (g : Given) (st : Static g) where
         }
 
     pub run_above : (m : ℕ) → Run e m → readable (g.kind m) ≡ true → rank e ≤ rank m
+    run_above m (inl x'') r = elim x'' [ ]
     run_above m (inr q) r = clash r (ap (λ (z : ℕ). readable (g.kind z)) q ∙ re)
 
     -- e is no dependency of itself
     pub run_apart : (d : ℕ) → d < g.size → Goes g d e → Run e d → ⊥
+    run_apart d hd gd (inl x') = elim x' [ ]
     run_apart d hd gd (inr z) = never_back g st d e hd gd (subst (Under g d) z (under_same g st d))
 
     run_known : (m : ℕ) → Run e m ⊎ (Run e m → ⊥)
     run_known m = either (eqb m e) (λ q. inl (inr (eqb-true m e q))) (λ q. inr (off (eqb-false m e q)))
       where
         off : (m ≡ e → ⊥) → Run e m → ⊥
+        off f (inl x') = elim x' [ ]
         off f (inr q) = f q
 
     owner_few : (s : St) → Owns s e → length (s.subs e) ≤ owned_link (g.owner e)
@@ -180,6 +183,7 @@ module _ (g : Given) (st : Static g) where
           }
         where
           at : (n : ℕ) → Run e n → n ≡ e
+          at n (inl x') = elim x' [ ]
           at n (inr q) = q
 
           spare : length (owner_links (g.kind e) (s₁.subs e)) + (reads_of g st e + reads_of g st e) ≤ spends g s₁ e
@@ -271,9 +275,11 @@ module _ (g : Given) (st : Static g) where
           )
         where
           off : (m : ℕ) → (m ≡ e → ⊥) → Run e m → ⊥
+          off m ne (inl x') = elim x' [ ]
           off m ne (inr q) = ne q
 
           apart : (m : ℕ) → Under g e m × (m ≡ e → ⊥) → Run e m → ⊥
+          apart m p (inl x') = elim x' [ ]
           apart m p (inr q) = p.1 q
 
     -- ---- a rerun: a new cycle, flags 6, and the cursor before the first link
@@ -380,6 +386,7 @@ module _ (g : Given) (st : Static g) where
       popped_open = record { known = run_known; pays = λ n h x. at n x }
         where
           at : (n : ℕ) → Run e n → Paid g s' n
+          at n (inl x') = elim x' [ ]
           at n (inr z) = subst (Paid g s') (sym z) (record { enough = (rests_paid g st nobody s e i he was).enough })
 
       -- well-formed and not stuck; effects that are still live keep their read links, but for e if it has a row, and then what it owned is gone, and nothing else

@@ -64,6 +64,7 @@ and_one false b e p = false≢true p
 -- a pending subscriber becomes dirty
 pub soil_here : (sub : ℕ → ℕ) (l : ℕ) (ls : List ℕ) (f : ℕ → Named) → In l ls → (f (sub l)).pending ≡ true → (soil sub ls f (sub l)).dirty ≡ true
 unfolding soil
+soil_here sub l [] f x'' p = elim x'' [ ]
 soil_here sub l (x ∷ ls) f (inl e) p =
     branch (λ (g : ℕ → Named). (soil sub ls g (sub l)).dirty ≡ true) ((f (sub x)).pending && not (f (sub x)).dirty)
     (λ t. turn_dirty sub ls _ _ (sub l) (soil_turn sub ls (up f (sub x) (with_dirty (f (sub x)) true)) (sub l))

@@ -32,6 +32,7 @@ module _ (s : St) (w : WellFormed s) (l : ℕ) (lv : s.live l ≡ true) (c : s.k
       (r.0, ap₂ (λ (x y : List ℕ). x ++ y) r.1 r.2)
     where
       away : (m : ℕ) → Under (given s) (s.dep l) m → also nobody (s.sub l) m → ⊥
+      away m p (mathlib.Core.Logic.inl x') = elim x' [ ]
       away m p (inr q) = never_back (given s) (static s w) (s.dep l) (s.sub l) (i.lists.inside l lv).0 (i.goes l lv) (subst (Under (given s) (s.dep l)) q p)
 
   pub stays : deps s (s.dep l) ≡ [] → unlink s l ≡ cut s l

@@ -283,6 +283,7 @@ module _ (g : Given) (st : Static g) where
       X-off m x p = let a = above m x (ap readable p.0) in let b = p.1 in omega arith
 
       one : {b : ℕ} (j : ℕ) → In j (b ∷ []) → j ≡ b
+      one {b = b} j (inr x') = elim x' [ ]
       one j (inl q) = q
 
       -- the first link l that is not passed yet leads to a dependency that can be read: it is brought up to date. Each fact is a law of its own, so that no proof holds another's.
