@@ -19,7 +19,7 @@ CHAIN = re.compile(r'(?<![^\s(){};,@"←])(%s)((?:\.%s)+)' % (NAME, NAME))
 
 
 def norm(x):
-    return x.strip('«»').replace('_', '-')
+    return x.strip('«»').replace('_', '-').lower()
 
 
 def load(crate):
@@ -64,6 +64,10 @@ def flat(fn, env, head, fields, said):
     # Labels are counted, so each stands once on the way to a goal; how many silent steps lie between has changed.
     while up is not None and out is None:
         old, new = fn.label[up]
+        for arm, _, parts in [fn.arms[up]] if fn.arms.get(up) else []:
+            for field, of, path in sorted(parts, key=lambda p: -len(p[2])):
+                if path and norm(of) == norm(first) and rest[:len(path)] == path and out is None:
+                    return ('step', '.'.join(['c', arm, field] + rest[len(path):]))
         out = new if norm(old) == norm(first) else None
         up = fn.parent[up]
     if out is None:
@@ -167,6 +171,8 @@ def convert(crate, path, fn, opened, said):
             atom = r'(?:[^\s()]+|\((?:[^()]|\([^()]*\))*\))'
             inner = re.sub(r'not-(?:true|false) %s (c\.(?:if|loop)\S*-not-\S*\.(?:true|false))(?![^\s(){};,])' % atom, r'\1', inner)
             inner = re.sub(r'\((c\.[^\s()]+)\)', r'\1', inner)
+            if inner.strip() == 'search rules' and not unf:
+                continue
             answers.append('\n'.join(['pub %s : goal.%s' % (new, new)] + unf + ['%s c =%s%s' % (new, c[3] if c[3] else ' ', inner)]))
         else:
             loop = fn.loops.get(norm(m[5]))
@@ -210,6 +216,8 @@ def convert(crate, path, fn, opened, said):
             it.write('\n'.join(note + used(uses, body) + ['use Rattle.%s.proofs.%s.Given as goal' % (crate, module), '']) + '\n' + body + '\n')
     if answers:
         body = '\n\n'.join(answers)
+        body = body.replace('to_z-of_z (search', 'to_z-of_z {w = w64} (search')
+        uses += ['use Rattle.std.proofs.Common.{w64}']
         extra = ['use borrow.Author.Rules.{rules}'] if re.search(r'\brules\b', body) else []
         with open(path + '/Answers.antt', 'w', encoding='utf-8') as it:
             it.write('\n'.join(note + extra + used(uses, body) + ['use Rattle.%s.proofs.%s.Goals as goal' % (crate, module), '']) + '\n' + body + '\n')
