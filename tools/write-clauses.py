@@ -5,7 +5,8 @@
 
 Run at the top of the repository. It runs `rt check` in crates/CRATE, takes
 each line 'FILE:LINE:COL: error: `F`: write the clause `C = elim x [ ]`',
-writes C before the first clause of its definition (at FILE:LINE), and checks
+(or the several clauses listed below 'write the clauses') and writes C before
+the first clause of its definition (at FILE:LINE), and checks
 again until no such line is left or nothing changed. The last output of the
 check stays in /tmp/write-clauses-CRATE.log.
 """
@@ -15,6 +16,9 @@ import subprocess
 import sys
 
 ASKS = re.compile(r"^(\S+?):(\d+):(\d+): error: `[^`]*`: write the clause `(.*)`\s*$")
+
+MANY = re.compile(r"^(\S+?):(\d+):(\d+): error: `[^`]*`: write the clauses\s*$")
+LISTED = re.compile(r"^  (\S.* = elim \S+ \[ \])\s*$")
 
 
 def short(clause, text):
@@ -35,8 +39,16 @@ def main():
         with open(f"/tmp/write-clauses-{crate}.log", "w") as log:
             log.write(said)
         asked = {}
+        many = None
         for line in said.splitlines():
             m = ASKS.match(line)
+            if line and not line.startswith(" "):
+                many = MANY.match(line)
+            elif many:
+                c = LISTED.match(line)
+                if c:
+                    path = os.path.normpath(os.path.join(folder, many.group(1)))
+                    asked.setdefault(path, set()).add((int(many.group(2)), c.group(1)))
             if m:
                 path = os.path.normpath(os.path.join(folder, m.group(1)))
                 asked.setdefault(path, set()).add((int(m.group(2)), m.group(4)))

@@ -94,11 +94,14 @@ climbed_one (climbs o q a h) (stops k) = clash a (k o q)
 climbed_one {ow = ow} {f = f} {e = e} (climbs o q a h) (climbs {c = d} p r b k) =
     ap (λ (x : List ℕ). e ∷ x) (climbed_one h (subst (λ (x : ℕ). Climbed ow f x d) (same_some (sym r ∙ q)) k))
 
+marked_same : {s : St} {m : Marks} {u : ℕ} {x : Marks} → Marked s m u x → {y : Marks} → Marked s m u y → x ≡ y
+marked_same (quiet a) (quiet b) = refl
+marked_same (quiet a) (queues d b k) = clash b a
+marked_same (queues c a h) (quiet b) = clash a b
+marked_same {m = m} {u = u} (queues c a h) (queues d b k) = ap (λ (z : List ℕ). marks (calm z (pending_at m u)) (m.queue ++ reverse z) m.stuck) (climbed_one h k)
+
 marked_one : {s : St} {m x y : Marks} {u : ℕ} → Marked s m u x → Marked s m u y → x ≡ y
-marked_one (quiet a) (quiet b) = refl
-marked_one (quiet a) (queues d b k) = clash b a
-marked_one (queues c a h) (quiet b) = clash a b
-marked_one {m = m} {u = u} (queues c a h) (queues d b k) = ap (λ (z : List ℕ). marks (calm z (pending_at m u)) (m.queue ++ reverse z) m.stuck) (climbed_one h k)
+marked_one a b = marked_same a b
 
 pub walked_one : {s : St} {m x y : Marks} {w : List ℕ} → Walked s m w x → Walked s m w y → x ≡ y
 walked_one ends ends = refl

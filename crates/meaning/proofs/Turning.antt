@@ -4,17 +4,18 @@ use mathlib.Core.Logic.{inl}
 use mathlib.Core.Bool.{Bool, true, false}
 use mathlib.Core.List.{List, [], ◌∷◌, ◌++◌, append_assoc, append-nil}
 use Prim.Native.Nat.{ℕ}
-use Rattle.values.specs.Values.{value, sum}
+use Rattle.values.specs.declared.Value.{Value}
 use Rattle.meaning.specs.State.{St, Row, f2}
 use Rattle.meaning.specs.Setters.{with_queue, set_fl}
 use Rattle.meaning.specs.Reads.{check}
-use Rattle.meaning.specs.Marks.{with_marks}
+use Rattle.meaning.specs.Marks.{Marks, marks_of, with_marks}
 use Rattle.meaning.specs.Engine.{rerun, run, flush_on}
 use Rattle.meaning.specs.Words.{Command, node_of}
 use Rattle.meaning.specs.WellFormed.{In}
 use Rattle.meaning.specs.Moments.{Steps}
-use Rattle.meaning.specs.Outcome.{sets, adds}
+use Rattle.meaning.specs.Outcome.{Writes, sets, adds}
 use Rattle.meaning.specs.Checks.{Checks}
+use Rattle.meaning.specs.Order.{Walked}
 use Rattle.meaning.specs.Turns.{InTurn, ends, gone, clean, unchanged, changed, dirty, wrote, FlushBegins, as_before, walks, batch}
 use Rattle.meaning.proofs.Laws.{clash, false≢true, either, branch}
 use Rattle.meaning.proofs.Rings.{check_ring, rerun_ring}
@@ -113,12 +114,30 @@ in_turn_one (dirty e a u f) (unchanged d b x y k g) = clash u x
 in_turn_one (dirty e a u f) (changed d b x y k g) = clash u x
 in_turn_one (dirty e a u f) (dirty d b x g) = ap (λ (l : List ℕ). e ∷ l) (in_turn_one f g)
 
+-- a command writes one value at one signal
+writes_one : {s : St} {c : Command} {n : ℕ} {x : Value} → Writes s c n x → {m : ℕ} {y : Value} → Writes s c m y → (n ≡ m) × (x ≡ y)
+writes_one (sets n v) (sets _ _) = (refl, refl)
+writes_one (adds n v) (adds _ _) = (refl, refl)
+
+-- a new value there is no old one
+was_old : (s : St) {n m : ℕ} {x y : Value} → (n ≡ m) × (x ≡ y) → s.pend n ≡ x → s.pend m ≡ y
+was_old s {y = y} p e = subst (λ (k : ℕ). s.pend k ≡ y) p.0 (e ∙ p.1)
+
+written_one : (s : St) {n m : ℕ} {x y : Value} {a b : Marks} → (n ≡ m) × (x ≡ y) → Walked (wrote s n x) (marks_of (wrote s n x)) (s.subs n) a
+    → Walked (wrote s m y) (marks_of (wrote s m y)) (s.subs m) b → with_marks (wrote s n x) a ≡ with_marks (wrote s m y) b
+written_one s {n = n} {m = m} {x = x} {y = y} {a = a} {b = b} p h i = same n p.0 x p.1 h
+  where
+    same : (k : ℕ) → k ≡ m → (z : Value) → z ≡ y → Walked (wrote s k z) (marks_of (wrote s k z)) (s.subs k) a → with_marks (wrote s k z) a ≡ with_marks (wrote s m y) b
+    same k q z r w = subst (λ (j : ℕ). Walked (wrote s j z) (marks_of (wrote s j z)) (s.subs j) a → with_marks (wrote s j z) a ≡ with_marks (wrote s m y) b) (sym q)
+        (subst (λ (o : Value). Walked (wrote s m o) (marks_of (wrote s m o)) (s.subs m) a → with_marks (wrote s m o) a ≡ with_marks (wrote s m y) b) (sym r) (λ u. ap (with_marks (wrote s m y)) (walked_one u i))) w
+
 pub begins_one : {s p q : St} {c : Command} → FlushBegins s c p → FlushBegins s c q → p ≡ q
+begins_one {s = s} (as_before {n = n} a e) batch = elim a [ ]
+begins_one {s = s} (walks {n = n} {m = m} a f h) batch = elim a [ ]
+begins_one {s = s} batch (as_before {n = n} b f) = elim b [ ]
+begins_one {s = s} batch (walks {n = n} {m = m} b f h) = elim b [ ]
 begins_one (as_before a e) (as_before b f) = refl
-begins_one (as_before (sets n v) e) (walks (sets m w) f h) = absurd (f e)
-begins_one (as_before (adds n v) e) (walks (adds m w) f h) = absurd (f e)
-begins_one (walks (sets n v) f h) (as_before (sets m w) e) = absurd (f e)
-begins_one (walks (adds n v) f h) (as_before (adds m w) e) = absurd (f e)
-begins_one {s = s} (walks (sets n v) f h) (walks (sets m w) g i) = ap (with_marks (wrote s (node_of n) (value v))) (walked_one h i)
-begins_one {s = s} (walks (adds n v) f h) (walks (adds m w) g i) = ap (with_marks (wrote s (node_of n) (sum (s.sto (node_of n)) (value v)))) (walked_one h i)
+begins_one {s = s} (as_before a e) (walks b f h) = absurd (f (was_old s (writes_one a b) e))
+begins_one {s = s} (walks a f h) (as_before b e) = absurd (f (was_old s (writes_one b a) e))
+begins_one {s = s} (walks a f h) (walks b g i) = written_one s (writes_one a b) h i
 begins_one batch batch = refl
