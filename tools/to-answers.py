@@ -39,6 +39,21 @@ class Function:
         self.settled = entry['settled']
         self.loops = {norm(l[0][0]): (l[0][1], l[1], ch) for l, ch in zip(entry['loops'], entry['changed'])}
         self.arms = dict(zip(self.parent, entry['arms']))
+        self.clauses = dict(zip(self.parent, entry['clauses']))
+        self.callee = {p[0]: p[3] for p in entry['places']}
+
+
+def lent(callee, slices):
+    """What a function of the repository is lent to change, in order: all, or the slices."""
+    if callee is None:
+        return []
+    crate, name = callee.split('::')[0], callee.split('::')[-1]
+    for folder, _, files in os.walk('crates/%s/src' % crate):
+        for f in files:
+            m = re.search(r'\bfn %s(?:<[^>]*>)?\(([^)]*)\)' % re.escape(name), open(folder + '/' + f).read())
+            if m:
+                return re.findall(r'(\w+): &mut ' + (r'\[' if slices else ''), m[1])
+    return []
 
 
 def fresh(label):
@@ -68,7 +83,14 @@ def flat(fn, env, head, fields, said):
             for field, of, path in sorted(parts, key=lambda p: -len(p[2])):
                 if path and norm(of) == norm(first) and rest[:len(path)] == path and out is None:
                     return ('step', '.'.join(['c', arm, field] + rest[len(path):]))
-        out = new if norm(old) == norm(first) else None
+        if norm(old) == norm(first):
+            out = new
+            got = fn.clauses[up]
+            if got and len(rest) > 1 and rest[0] == 'ensures' and rest[1].isdigit() and int(rest[1]) < len(got['fields']):
+                rest[1] = got['fields'][int(rest[1])]
+            if len(rest) > 1 and rest[0] in ('auto', 'new') and rest[1].isdigit():
+                names = lent(fn.callee[up], rest[0] == 'auto')
+                rest[1] = names[int(rest[1])] if int(rest[1]) < len(names) else rest[1]
         up = fn.parent[up]
     if out is None:
         out = first
@@ -156,6 +178,8 @@ def convert(crate, path, fn, opened, said):
                     said.append('no goal for %s' % m[3])
                 continue
             new, place = goal
+            if new.startswith('shape_of-'):
+                continue
             if opened is not None and new not in opened:
                 continue
             lines = body.split('\n')
