@@ -159,9 +159,11 @@ module _ (P : Course) (so : Sound P) (rows : ℕ) where
         ∙ sym (up_other (λ m. P.past.found m || moved s.sto t.sto (ρ m)) n false e ne))
       where
         deaf : (m : ℕ) → also nobody n m → readable (up s.kind n effect m) ≡ false
+        deaf m (inl x'') = elim x'' [ ]
         deaf m (inr q) = ap readable (ap (up s.kind n effect) q ∙ up_same s.kind n effect)
 
         off : (e ≡ n → ⊥) → also nobody n e → ⊥
+        off ne (inl x'') = elim x'' [ ]
         off ne (inr q) = ne q
 
         out : (e ≡ n → ⊥) → Aside (given N) n t e → ⊥

@@ -33,6 +33,9 @@ everybody n = Unit {0}
 
 -- one link only
 single : (xs : List ℕ) (a b : ℕ) → several xs ≡ false → In a xs → In b xs → a ≡ b
+single (x ∷ []) a b e (inl p) (inr x12) = elim x12 [ ]
+single (x ∷ []) a b e (inr x12) j = elim x12 [ ]
+single [] a b e i j = elim i [ ]
 single (x ∷ []) a b e (inl p) (inl q) = p ∙ sym q
 single (x ∷ y ∷ xs) a b e i j = false≢true (sym e)
 
@@ -109,6 +112,7 @@ module _ (g : Given) (st : Static g) (p : ℕ → Value) (ρ : Records) (X : Set
     to_all j s t m = moves_wider g p (Low g u) (Low g u) nobody everybody u u j j s t (λ n z. z) (λ n z. tt) (omega arith) (omega arith) m
 
     one : {b : ℕ} (j : ℕ) → In j (b ∷ []) → j ≡ b
+    one {b = b} j (inr x') = elim x' [ ]
     one j (inl q) = q
 
     -- u was not dirty in s: if it is in t, or a read of it changes from t to x, one has changed from s to x

@@ -32,6 +32,7 @@ moved_at a b (x ∷ xs) e =
 
 at_moved : (a b : ℕ → Value) (xs : List (ℕ × Value)) (d : ℕ) → In d (firsts xs) → (a d ≡ b d → ⊥) → moved a b xs ≡ true
 unfolding moved firsts
+at_moved a b [] d x'' f = elim x'' [ ]
 at_moved a b (x ∷ xs) d (inl e) f =
     or_first (not (same (a x.0) (b x.0))) (moved a b xs) (either (same (a x.0) (b x.0))
     (λ y. absurd (f (subst (λ (n : ℕ). a n ≡ b n) (sym e) (same_yes (a x.0) (b x.0) y)))) (λ y. ap not y))

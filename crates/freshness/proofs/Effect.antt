@@ -163,6 +163,7 @@ module _ (g : Given) (st : Static g) (p : ℕ → Value) (ρ : Records) (e : ℕ
           }
         where
           off : (m : ℕ) → (m ≡ e → ⊥) → Run g st e m → ⊥
+          off m f (inl x'') = elim x'' [ ]
           off m f (inr q) = f q
 
   -- ---- the evaluation, from s₁ on
@@ -187,6 +188,7 @@ module _ (g : Given) (st : Static g) (p : ℕ → Value) (ρ : Records) (e : ℕ
         settles_of g st p ρ (Run g st e) K (in_fresh K t n) (fresh K) (fresh_inside g st K) t n ti to (omega arith) rn above (omega arith) (sound g st p ρ K (Run g st e) t n ti to (omega arith) rn above (omega arith) tv q)
       where
         above : (m : ℕ) → Run g st e m → readable (g.kind m) ≡ true → n < m
+        above m (inl x'') r = elim x'' [ ]
         above m (inr z) r = clash r (ap (λ (b : ℕ). readable (g.kind b)) z ∙ re)
 
     abbrev Mid : St → List ℕ → Type 0
@@ -248,6 +250,7 @@ module _ (g : Given) (st : Static g) (p : ℕ → Value) (ρ : Records) (e : ℕ
         }
       where
         apart : (m : ℕ) → Under g e m × (m ≡ e → ⊥) → Run g st e m → ⊥
+        apart m q (inl x') = elim x' [ ]
         apart m q (inr w) = q.1 w
 
         stays : (t : St) → Inside g (Run g st e) t → (m : ℕ) → (Aside g e t m → ⊥) → (t.fl m ≡ up o.st.fl e f2 m) ⊎ Fallen t m → t.fl m ≡ up o.st.fl e f2 m
@@ -256,6 +259,7 @@ module _ (g : Given) (st : Static g) (p : ℕ → Value) (ρ : Records) (e : ℕ
         stays t ti m a (inr (inr q)) = absurd (a (inl (λ k. clash (ap (λ (f : Named). f.mutable) q) (own_still g t.queue t.dep t.sub m _ _ _ _ _ (ti.rests m k.0 (λ w. off w)) (ap readable k.1)))))
           where
             off : Run g st e m → ⊥
+            off (inl x3) = elim x3 [ ]
             off (inr w) = a (inr (inl w))
 
     pub first_fresh : s₁.rest e ≡ [] → Reran g p ρ e (j + much) s (set_fl (logged o e) e f2)

@@ -20,11 +20,13 @@ use Rattle.freshness.proofs.Run.{Due}
 -- a record of values is of those values
 among_in : (f : ℕ → Value) (ns : List ℕ) (d : ℕ) (v : Value) → Among d v (paired f ns) → In d ns × (v ≡ f d)
 unfolding paired
+among_in f List.[] d v x' = elim x' [ ]
 among_in f (n ∷ ns) d v (inl e) = (inl e.0, e.1 ∙ ap f (sym e.0))
 among_in f (n ∷ ns) d v (inr i) = let r = among_in f ns d v i in (inr r.0, r.1)
 
 in_among : (f : ℕ → Value) (ns : List ℕ) (d : ℕ) → In d ns → Among d (f d) (paired f ns)
 unfolding paired
+in_among f List.[] d x' = elim x' [ ]
 in_among f (n ∷ ns) d (inl e) = inl (e, ap f e)
 in_among f (n ∷ ns) d (inr i) = inr (in_among f ns d i)
 

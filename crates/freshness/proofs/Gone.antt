@@ -116,6 +116,7 @@ passes_same g (r ∷ rs) a c b e p = (
 -- who has a row was live before it, and so was who is live after it
 pub row_alive : (g : Given) (rs : List Row) (a b : ℕ → Bool) → Passes g a rs b → (e : ℕ) → In e (whos rs) → (e < g.size) × (g.kind e ≡ effect) × (a e ≡ false)
 unfolding whos
+row_alive g [] a b p e x'' = elim x'' [ ]
 row_alive g (r ∷ rs) a b p e (inl q) = subst (λ (n : ℕ). (n < g.size) × (g.kind n ≡ effect) × (a n ≡ false)) (sym q) (p.0, p.1, p.2)
 row_alive g (r ∷ rs) a b p e (inr i) =
     let x = row_alive g rs (λ m. a m || owns g.owner r.who m) b p.3 e i in

@@ -65,11 +65,13 @@ fresh_rows g p (r ∷ rs) f = (ap (λ (x : Row). x.worth) f.0, ap (λ (x : Row).
 
 among_first : (d : ℕ) (v : Value) (xs : List (ℕ × Value)) → Among d v xs → In d (firsts xs)
 unfolding firsts
+among_first d v [] x' = elim x' [ ]
 among_first d v (x ∷ xs) (inl e) = inl e.0
 among_first d v (x ∷ xs) (inr i) = inr (among_first d v xs i)
 
 first_among : (d : ℕ) (xs : List (ℕ × Value)) → In d (firsts xs) → (v : Value) × Among d v xs
 unfolding firsts
+first_among d [] x' = elim x' [ ]
 first_among d (x ∷ xs) (inl e) = (x.1, inl (e, refl))
 first_among d (x ∷ xs) (inr i) = let r = first_among d xs i in (r.0, inr r.1)
 

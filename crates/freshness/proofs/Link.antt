@@ -75,6 +75,7 @@ in_one : (n : ℕ) (ms : List ℕ) (m : ℕ) → In n (ms ++ m ∷ []) → (In n
 in_one n ms m i = in_cases n ms (m ∷ []) i inl (λ j. last j)
   where
     last : In n (m ∷ []) → In n ms ⊎ (n ≡ m)
+    last (inr x') = elim x' [ ]
     last (inl e) = inr e
 
 -- the last of a list is in it

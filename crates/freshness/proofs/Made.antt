@@ -182,6 +182,7 @@ module _ (s : St) (w : WellFormed s) (k : Kind) (t : Tree) (b : Named) (v : Valu
       }
     where
       off : (m : ℕ) → (m ≡ n → ⊥) → also nobody n m → ⊥
+      off m f (inl x') = elim x' [ ]
       off m f (inr q) = f q
 
       no_links : (x : St) → x.done n ≡ [] → x.rest n ≡ [] → (l : ℕ) → In l (x.done n ++ x.rest n) → ⊥

@@ -34,6 +34,7 @@ use Rattle.freshness.proofs.Wrong.{case9, ends, early}
 -- two effects have a row
 each_row : (C : ℕ → Type 0) (x y : Row) → C x.who → C y.who → (e : ℕ) → HasRow e (x ∷ y ∷ []) → C e
 each_row C x y cx cy e (inl z) = subst C (sym z) cx
+each_row C x y cx cy e (inr (inr x3)) = elim x3 [ ]
 each_row C x y cx cy e (inr (inl z)) = subst C (sym z) cy
 
 -- four nodes, and two of them signals

@@ -199,6 +199,7 @@ module _ (g : Given) (st : Static g) (p : ℕ → Value) (ρ : Records) (e : ℕ
             clean g st p ρ (Run g st e) t w.inside tv (s.dep l) (i.lists.inside l lv).0 (λ m y x. above m y x) r (ap (λ (y : Named). y.mutable) f) (ap unclean f)
           where
             above : (m : ℕ) → Run g st e m → readable (g.kind m) ≡ true → s.dep l < m
+            above m (inl x3) x = elim x3 [ ]
             above m (inr y) x = absurd (other m x y)
 
         passes : RunFresh g p ρ e (much + 0) s' (set_fl t e f2)
@@ -228,6 +229,7 @@ module _ (g : Given) (st : Static g) (p : ℕ → Value) (ρ : Records) (e : ℕ
             }
           where
             off : (m : ℕ) → (m ≡ e → ⊥) → Run g st e m → ⊥
+            off m f (inl x') = elim x' [ ]
             off m f (inr z) = f z
 
             not_due : Due g p s' e → ⊥
@@ -254,6 +256,7 @@ module _ (g : Given) (st : Static g) (p : ℕ → Value) (ρ : Records) (e : ℕ
         (λ x n lt xi xo r xv f. sound g st p ρ K (Run g st e) x n xi xo (omega arith) r (λ m z y. above m z y) (omega arith) xv f) s' pop (popped_open g st e he ke s q i is) (has_deps g st e he ke s q i is a reads pd) v' fits
       where
         above : {n : ℕ} (m : ℕ) → Run g st e m → readable (g.kind m) ≡ true → n < m
+        above {n = n} m (inl x'') y = elim x'' [ ]
         above m (inr z) y = absurd (other m y z)
 
   -- what a check leads to

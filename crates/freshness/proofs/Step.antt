@@ -113,6 +113,7 @@ module _ (g : Given) (st : Static g) (p : ℕ → Value) (ρ : Records) (k : ℕ
       kept d t x e (inr z) = z.0
 
       last : (d : ℕ) (y : St) → y.fl n ≡ f1 → y.sto n ≡ φ g p n → In d (n ∷ []) → (y.fl d ≡ f1) × (y.sto d ≡ φ g p d)
+      last d y f h (inr x') = elim x' [ ]
       last d y f h (inl e) = (ap y.fl e ∙ f, ap y.sto e ∙ h ∙ ap (φ g p) (sym e))
 
   -- (b): the value is the formula's over the fresh values, the record what was read; and all that held holds
