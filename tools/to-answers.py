@@ -3,6 +3,7 @@
 
 usage: tools/to-answers.py CRATE [NAMES.json] [--only FN..] [--open LOG]
 
+A cycle of functions (a folder `+..`) is written too: its measures, loops and goals, each under its function's name.
 Run at the top of the repository. NAMES.json is what `rt check --generated DIR --old-names` writes in the crate; without it, it is made.
 With --open only the goals that LOG, what a check without proof files said, lists as open are written. Proof.antt moves to Proof.old beside it.
 What it cannot place it prints.
@@ -28,8 +29,29 @@ def load(crate):
     return json.load(open(folder + '/names.json'))
 
 
+def writers():
+    """The parameters that each function is passed as &mut, in their order, and those of them that are slices."""
+    out = {}
+    for folder, dirs, files in os.walk('crates'):
+        for name in files:
+            if name.endswith('.rt') and '/src' in folder:
+                for m in re.finditer(r'\bfn (\w+)(?:<[^>]*>)?\(([^)]*)\)', open(os.path.join(folder, name), encoding='utf-8').read()):
+                    crate = folder.split('/')[1]
+                    given = [g for g in (re.match(r'\s*(?:&mut (self)|(\w+): &mut (\[)?)', a) for a in m[2].split(',')) if g]
+                    out.setdefault((crate, m[1]), ([g[1] or g[2] for g in given], [g[2] for g in given if g[3]]))
+    return out
+
+
 class Function:
+    written = None
+
     def __init__(self, entry):
+        if Function.written is None:
+            Function.written = writers()
+        self.stem = entry.get('stem') or ''
+        self.callee = {place[0]: place[3] for place in entry['places']}
+        self.clauses = dict(zip([place[0] for place in entry['places']], entry['clauses']))
+        self.params = {k.split('::')[-1]: v for k, v in entry['params'].items()}
         self.parent, self.label, self.key = {}, {}, {}
         for place, parent, labels, _, _ in entry['places']:
             self.parent[place], self.label[place] = parent, labels
@@ -39,21 +61,6 @@ class Function:
         self.settled = entry['settled']
         self.loops = {norm(l[0][0]): (l[0][1], l[1], ch) for l, ch in zip(entry['loops'], entry['changed'])}
         self.arms = dict(zip(self.parent, entry['arms']))
-        self.clauses = dict(zip(self.parent, entry['clauses']))
-        self.callee = {p[0]: p[3] for p in entry['places']}
-
-
-def lent(callee, slices):
-    """What a function of the repository is lent to change, in order: all, or the slices."""
-    if callee is None:
-        return []
-    crate, name = callee.split('::')[0], callee.split('::')[-1]
-    for folder, _, files in os.walk('crates/%s/src' % crate):
-        for f in files:
-            m = re.search(r'\bfn %s(?:<[^>]*>)?\(([^)]*)\)' % re.escape(name), open(folder + '/' + f).read())
-            if m:
-                return re.findall(r'(\w+): &mut ' + (r'\[' if slices else ''), m[1])
-    return []
 
 
 def fresh(label):
@@ -61,49 +68,69 @@ def fresh(label):
     return label
 
 
+def count_of(fields, i):
+    """The position that .1.1.0 names from i on, and where it ends."""
+    n = 0
+    while i < len(fields) and fields[i] == '1':
+        n, i = n + 1, i + 1
+    return (n, i + 1) if i < len(fields) and fields[i] == '0' else None
+
+
 def flat(fn, env, head, fields, said):
     """What a chain of the old form reads as now."""
     fields = fields[1:].split('.')
     at = env.get(head)
-    if at is None:
+    if at is None or at[0] == 'step':
         return None
-    if at[0] == 'step':
-        return None
+    if at[0] == 'alias':
+        place, fields = at[1], at[2] + fields
+    else:
+        place = at[1]
     i = 0
     while i < len(fields) and fields[i] == 'before':
         i += 1
     if i == len(fields):
-        return ('place', at[1])
+        return ('place', place)
     first, rest = fields[i], fields[i + 1:]
-    up, out = at[1], None
-    # Labels are counted, so each stands once on the way to a goal; how many silent steps lie between has changed.
-    while up is not None and out is None:
-        old, new = fn.label[up]
-        for arm, _, parts in [fn.arms[up]] if fn.arms.get(up) else []:
-            for field, of, path in sorted(parts, key=lambda p: -len(p[2])):
-                if path and norm(of) == norm(first) and rest[:len(path)] == path and out is None:
-                    return ('step', '.'.join(['c', arm, field] + rest[len(path):]))
-        if norm(old) == norm(first):
-            out = new
-            got = fn.clauses[up]
-            if got and len(rest) > 1 and rest[0] == 'ensures' and rest[1].isdigit() and int(rest[1]) < len(got['fields']):
-                rest[1] = got['fields'][int(rest[1])]
-            if len(rest) > 1 and rest[0] in ('auto', 'new') and rest[1].isdigit():
-                names = lent(fn.callee[up], rest[0] == 'auto')
-                rest[1] = names[int(rest[1])] if int(rest[1]) < len(names) else rest[1]
-        up = fn.parent[up]
-    if out is None:
-        out = first
-        if first not in ('args', 'ranges', 'requires', 'lifetimes', 'well_formed', 'type_inv', 'type-inv'):
-            said.append('no step %s at %s (of %s.%s)' % (first, at[1], head, '.'.join(fields)))
-    return ('step', '.'.join(['c', out] + rest))
+    if fn.stem and first == 'requires' and rest:
+        return ('step', '.'.join(['c', 'decreases' if rest[0] == '0' else 'requires'] + rest[1:]))
+    known = ('args', 'ranges', 'requires', 'lifetimes', 'well_formed', 'type_inv', 'type-inv')
+    for want in [first, first[:-4]] if first.endswith('_lem') else [first]:
+        # An arm of a match has what silent steps told of it under names of its own.
+        up = place
+        while up is not None:
+            arm = fn.arms.get(up)
+            for new, step, path in sorted(arm[2], key=lambda p: -len(p[2])) if arm else []:
+                if path and norm(step) == norm(want) and rest[:len(path)] == path:
+                    return ('step', '.'.join(['c', arm[0], new] + rest[len(path):]))
+            up = fn.parent[up]
+        up = place
+        # Labels are counted, so each stands once on the way to a goal; how many silent steps lie between has changed.
+        while up is not None:
+            old, new = fn.label[up]
+            if norm(old) == norm(want):
+                got = fn.clauses[up]
+                if got and len(rest) > 1 and rest[0] == 'ensures' and rest[1].isdigit() and int(rest[1]) < len(got['fields']):
+                    rest[1] = got['fields'][int(rest[1])]
+                if len(rest) > 1 and rest[0] in ('new', 'auto') and rest[1].isdigit() and fn.callee[up]:
+                    all_, slices = Function.written.get((fn.callee[up].split('::')[0], fn.callee[up].split('::')[-1]), ([], []))
+                    names, n = all_ if rest[0] == 'new' else slices, count_of(rest, 1) or (int(rest[1]), 2)
+                    if n[0] < len(names):
+                        rest = [rest[0], names[n[0]]] + rest[n[1]:]
+                    else:
+                        said.append('no parameter for %s of %s' % ('.'.join(rest), new))
+                return ('step', '.'.join(['c', new] + rest), up)
+            up = fn.parent[up]
+    if first not in known:
+        said.append('no step %s at %s (of %s.%s)' % (first, place, head, '.'.join(fields)))
+    return ('step', '.'.join(['c', first] + rest))
 
 
-def rewrite(fn, body, place, said, var='c'):
+def rewrite(fn, body, place, said, imported, var='c'):
     env = {var: ('place', place)}
     out, pos = [], 0
     # lets that only name a path, in order
-    token = re.compile(r'let (%s) = (%s)((?:\.%s)+) in(?=\s)\s*|' % (NAME, NAME, NAME) + CHAIN.pattern)
+    token = re.compile(r'let (%s) = (%s)((?:\.%s)+) in(?=\s)(\s*)|' % (NAME, NAME, NAME) + CHAIN.pattern)
     while True:
         m = token.search(body, pos)
         if not m:
@@ -112,16 +139,21 @@ def rewrite(fn, body, place, said, var='c'):
         out.append(body[pos:m.start()])
         if m[1]:
             got = flat(fn, env, m[2], m[3], said)
+            bare = m[1] not in imported and re.search(r'(?<![^\s(){};,@"←])%s(?![^\s(){};,@"])' % re.escape(m[1]), body[m.end():])
+            fields = m[3][1:].split('.')
+            at = env.get(m[2])
             if got is None:
                 out.append(m[0])
                 env.pop(m[1], None)
             elif got[0] == 'place':
                 env[m[1]] = got
+            elif not bare and fields[-1] != 'args' and all(f == 'before' for f in fields[:-1]):
+                env[m[1]] = ('alias', at[1], (at[2] if at[0] == 'alias' else []) + fields)
             else:
-                out.append('let %s = %s in%s' % (m[1], got[1], re.search(r'in(\s+)$', m[0])[1] if re.search(r'in(\s+)$', m[0]) else ' '))
-                env[m[1]] = got
+                out.append('let %s = %s in%s' % (m[1], got[1], m[4]))
+                env[m[1]] = ('step',)
         else:
-            got = flat(fn, env, m[4], m[5], said)
+            got = flat(fn, env, m[5], m[6], said)
             if got is None or got[0] == 'place':
                 if got:
                     said.append('a place as a value: ' + m[0])
@@ -141,6 +173,9 @@ def chunks(text):
         i += 1
     cur = []
     for line in lines[i:]:
+        if cur and cur[-1].endswith(' :') and line.startswith(' '):
+            cur[-1] += ' ' + line.strip()
+            continue
         if re.match(r'^(?:(?:abbrev|pub|unfoldable) )*\S+(?: \{[^}]*\})* :(?: |$)', line) and not line.startswith(' ') and cur:
             rest.append('\n'.join(cur))
             cur = []
@@ -150,16 +185,42 @@ def chunks(text):
     return head, [c.rstrip() for c in rest if c.strip()]
 
 
-def convert(crate, path, fn, opened, said):
+def convert(crate, path, fns, opened, said):
+    """fns: the function's entry under '', or those of a cycle's functions by name."""
+    cycle = '' not in fns
     text = open(path + '/Proof.antt', encoding='utf-8').read()
     head, parts = chunks(text)
     module = path.split('/proofs/', 1)[1].replace('/', '.')
-    uses = [l for l in head if l.startswith('use ') and not re.search(r'\.(Statement|Tie)\b|borrow\.Author\.(Rules|Needs)\b|borrow\.Fn', l)]
+    of_alias = {m[2]: m[1] for m in re.finditer(r'(?m)^use \S+\.Lts-(\S+) as (\S+)-lts$', text)}
+    uses = [l for l in head if l.startswith('use ') and not re.search(r'\.(Statement|Tie|Reads|Kinds)\b|\.Lts-|\.\{statement\}|borrow\.Author\.(Rules|Needs)\b|borrow\.Fn', l)]
     note = [l for l in head if l.startswith('--')]
     answers, invariants = [], []
+    imported = set(re.findall(r'[^\s{},]+', ' '.join(l.split('{', 1)[1] for l in uses if '{' in l)))
+    params = {}
+    for fn in fns.values():
+        params.update(fn.params)
     for part in parts:
         sig, _, body = part.partition('\n')
-        m = re.match(r'(?:abbrev )?(\S+) : tie\.(?:(Need)-(\S+)|(invariant|decreases|InvT|MeasureT)-(\S+))', sig)
+        if cycle:
+            m = re.match(r'abbrev μ-(\S+) : Measures ', sig)
+            if m:
+                f = of_alias.get(m[1], m[1])
+                c = re.match(r'μ-\S+ \S+ (\S+) =(\s*)', body)
+                def arg(n):
+                    i, rest = 0, n[0].split('.')[1:]
+                    got = count_of(rest, 0)
+                    return '.'.join(['l', params[f][got[0]]] + rest[got[1]:])
+                inner = re.sub(r'(?<![^\s(){};,@"])%s(?:\.\w+)+' % c[1], arg, body[c.end():])
+                invariants.append('abbrev pub decreases-%s : goal.decreases-%s\ndecreases-%s l =%s%s' % (f, f, f, c[2], inner))
+                continue
+            if re.match(r'abbrev \S+-(?:at|below|of) : ', sig):
+                continue
+            m = re.match(r'(?:abbrev )?(\S+) : (?:\(t : ℕ\) → )?(?:\S+-lts)\.(?:(Need)-(\S+)|(invariant|decreases|InvT|MeasureT)-(\S+))', sig)
+            alias = re.search(r' (\S+)-lts\.', sig)
+            fn = fns[of_alias[alias[1]]] if m else None
+        else:
+            m = re.match(r'(?:abbrev )?(\S+) : tie\.(?:(Need)-(\S+)|(invariant|decreases|InvT|MeasureT)-(\S+))', sig)
+            fn = fns['']
         if not m:
             if re.match(r'(?:pub )?\S*[-_]spec : ', sig):
                 continue
@@ -180,24 +241,25 @@ def convert(crate, path, fn, opened, said):
             new, place = goal
             if new.startswith('shape_of-'):
                 continue
-            if opened is not None and new not in opened:
+            if opened is not None and fn.stem + new not in opened:
                 continue
             lines = body.split('\n')
             unf = [l for l in lines if l.startswith('unfolding ')]
             rest = '\n'.join(l for l in lines if not l.startswith('unfolding '))
-            c = re.match(re.escape(name) + r' (\S+)(?: (\S+))? =(\s*)', rest)
+            c = re.match(re.escape(name) + (r' t' if cycle else '') + r' (\S+)((?: [^\s=]+)*) =(\s*)', rest)
             if not c:
                 said.append('a clause of another form: ' + rest[:80])
                 continue
-            var = c[1]
-            inner = rewrite(fn, rest[c.end():], place, said, var)
+            var, more = c[1], c[2].replace(' κs', '')
+            inner = rewrite(fn, rest[c.end():], place, said, imported, var)
             # A test of `!x` says of x itself what it says.
             atom = r'(?:[^\s()]+|\((?:[^()]|\([^()]*\))*\))'
-            inner = re.sub(r'not-(?:true|false) %s (c\.(?:if|loop)\S*-not-\S*\.(?:true|false))(?![^\s(){};,])' % atom, r'\1', inner)
+            inner = re.sub(r'not[-_](?:true|false)(?:_lem)? %s (c\.(?:if|loop)\S*-not-\S*\.(?:true|false))(?![^\s(){};,])' % atom, r'\1', inner)
             inner = re.sub(r'\((c\.[^\s()]+)\)', r'\1', inner)
             if inner.strip() == 'search rules' and not unf:
                 continue
-            answers.append('\n'.join(['pub %s : goal.%s' % (new, new)] + unf + ['%s c =%s%s' % (new, c[3] if c[3] else ' ', inner)]))
+            full = fn.stem + new
+            answers.append('\n'.join(['pub %s : goal.%s' % (full, full)] + unf + ['%s %sc%s =%s%s' % (full, 't ' if cycle else '', more, c[3] if c[3] else ' ', inner)]))
         else:
             loop = fn.loops.get(norm(m[5]))
             if loop is None:
@@ -213,7 +275,7 @@ def convert(crate, path, fn, opened, said):
                 said.append('loop %s has %d arguments, not %d' % (new, len(want), len(args)))
             table = dict(zip(args, want))
             inner = re.sub(r'(?<![^\s(){};,@"])(%s)' % NAME, lambda m: table.get(m[1], m[0]), inner)
-            full = kind + '-' + new
+            full = kind + '-' + fn.stem + new
             invariants.append('abbrev pub %s : goal.%s\n%s l =%s%s' % (full, full, full, c[2] if c[2] else ' ', inner))
 
     def used(lines, text):
@@ -267,12 +329,13 @@ def main():
         if 'Proof.antt' not in files:
             continue
         module = folder[len(top) + 1:].replace('/', '.')
-        entry = names.get('Rattle-%s-proofs.%s.Lts' % (crate, module))
-        if entry is None:
+        start = 'Rattle-%s-proofs.%s.Lts' % (crate, module)
+        fns = {k[len(start):].lstrip('-'): Function(entry) for k, entry in names.items() if k == start or k.startswith(start + '-')}
+        if not fns:
             print('%s: no entry, left' % module)
             continue
         said = []
-        convert(crate, folder, Function(entry), opened.get(folder[len(top) + 1:], set()) if opened is not None else None, said)
+        convert(crate, folder, fns, opened.get(folder[len(top) + 1:], set()) if opened is not None else None, said)
         for s in said:
             print('%s: %s' % (module, s))
 
