@@ -1,14 +1,14 @@
 -- One turn of each loop of emptying. Assumes nothing.
-use mathlib.Core.Path.{◌≡◌, refl, sym, ap, ◌∙◌}
+use mathlib.Core.Path.{◌≡◌, refl}
 use mathlib.Core.Bool.{true, false}
 use mathlib.Core.List.{List}
 use Prim.Native.Nat.{ℕ, zero, suc, ◌-◌, ◌<◌, ◌≤◌}
 use native.Mathlib.Omega.{arith}
 use lib.IntN.{ℤ, pos}
-use lib.ListN.{length, get_or, set}
+use lib.ListN.{get_or, set}
 use Rattle.primitive.specs.Words.{FREE, NEXT-DEP, set_link}
 use Rattle.counting.specs.Counts.{slot_room, carry_in}
-use Rattle.operating.specs.Emptying.{Emptied, emptied, zeroed, blank, freed, emptying}
+use Rattle.operating.specs.Emptying.{emptied, zeroed, blank, freed, emptying}
 
 pub zero_turn {ℓ} : {A : Type ℓ} (z : A) (t : List A) (k : ℕ) → 0 < k → zeroed z t k ≡ zeroed z (set t (k - 1) z) (k - 1)
 unfolding zeroed

@@ -1,5 +1,5 @@
 -- The making of nodes: a new node has the next number, and its formula the next cells.
-use Rattle.std.specs.Prelude.{ℕ, zero, suc, ◌+◌, ◌*◌, ◌/◌, ◌-◌, min, Bool, true, false, ◌&&◌, List, [], ◌∷◌, leb, ltb, ℤ, pos, length, get_or, set}
+use Rattle.std.specs.Prelude.{ℕ, suc, ◌+◌, ◌*◌, ◌/◌, min, Bool, true, false, ◌&&◌, List, [], ◌∷◌, leb, ltb, ℤ, pos, length, get_or, set}
 use Rattle.flags.specs.declared.Flags.{Flags}
 use Rattle.primitive.specs.declared.slots.Slot.{Slot}
 use Rattle.primitive.specs.declared.slots.Slot.TheVariants.{At, Nothing}

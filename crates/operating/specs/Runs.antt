@@ -1,5 +1,5 @@
 -- Document 01, "Values, writes, flush": runs of effects and the flush. ws are the cells.
-use Rattle.std.specs.Prelude.{ℕ, zero, suc, ◌+◌, ◌*◌, Bool, true, false, List, ◌++◌, ltb, ℤ, take, drop}
+use Rattle.std.specs.Prelude.{ℕ, zero, suc, ◌+◌, ◌*◌, true, false, List, ◌++◌, ltb, ℤ, take, drop}
 use Rattle.primitive.specs.Words.{DEPS-TAIL, set_node, node_rows}
 use Rattle.queue.specs.Queue.{count, entry_at, emptied}
 use Rattle.linking.specs.Table.{tab}

@@ -5,8 +5,7 @@ use mathlib.Core.List.{List}
 use Prim.Native.Nat.{ℕ, zero, suc, ◌+◌, ◌-◌, ◌/◌, ◌≤◌, ◌<◌}
 use native.Mathlib.Omega.{arith}
 use native.Mathlib.Numerals.{sub-one}
-use lib.Bits.{bit_and}
-use lib.Dec.{eqb, ltb}
+use lib.Dec.{eqb}
 use lib.IntN.{ℤ, pos}
 use lib.ListN.{length}
 use borrow.Author.Tests.{eq-eqb, ne_eqb, lt-ltb, le-ltb}
@@ -23,12 +22,12 @@ use Rattle.trees.specs.Cells.{arity_of, cell_at, end_of}
 use Rattle.trees.specs.Legal.{most_nesting}
 use Rattle.trees.specs.Trees.{apply}
 use Rattle.linking.specs.Link.{linked}
-use Rattle.primitive.specs.Words.{DEP, NEXT-DEP, node, link}
+use Rattle.primitive.specs.Words.{DEP, NEXT-DEP, link}
 use Rattle.linking.specs.Table.{tab}
 use Rattle.marking.specs.Fields.{flags_of, set_flags, dirty, pending, has, has_only, without}
 use Rattle.reading.specs.Tables.{State, state, Told, told, Got, got, Evaluated, evaluated, rank_of, current_of, cycle_of}
 use Rattle.reading.specs.Steps.{woken, woken_others, updated_signal, waken_if, refreshed_signal, begun_first, begun, finished_first, finished, linked_to}
-use Rattle.reading.specs.Ring.{Ring, kind_of, start_of, read_by, two_by, choose_by, cell_by, evaluated_by, updated_computed_by, first_by, updated_by, settled_by, pending_by, stale, unsure, dependency_by, dirty_by, onward, deps_on, deps_by, checked_by, renewed_by, surely_by, refreshed_computed_by, refreshed_by, ring_n, Enough, Below}
+use Rattle.reading.specs.Ring.{Ring, kind_of, start_of, read_by, two_by, choose_by, cell_by, evaluated_by, updated_computed_by, first_by, updated_by, settled_by, pending_by, stale, unsure, dependency_by, dirty_by, onward, deps_by, checked_by, renewed_by, surely_by, refreshed_computed_by, refreshed_by, ring_n, Enough}
 
 -- ---- a member below the node at hand
 module _ (ws : List ℤ) (s : State) (m : ℕ) where

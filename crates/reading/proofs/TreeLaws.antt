@@ -6,7 +6,7 @@ use Prim.Native.Nat.{ℕ, zero, suc, ◌+◌, ◌-◌, ◌/◌, ◌≤◌}
 use native.Mathlib.Omega.{arith}
 use lib.IntN.{ℤ}
 use lib.ListN.{length}
-use Rattle.values.specs.Values.{value, is_zero}
+use Rattle.values.specs.Values.{is_zero}
 use Rattle.trees.specs.Cells.{arity_of, end_of}
 use Rattle.trees.specs.Trees.{Tree, constant, read, two, choose, size, nesting, apply, chosen, worth, reads}
 use Rattle.trees.proofs.Ends.{paid}

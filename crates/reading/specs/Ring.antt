@@ -1,9 +1,8 @@
 -- A read, the dirty check, updates and evaluation call each other in a ring. Only `ring_n` recurses, on a bound of the ranks; the others take the ring of the nodes of lower rank
 -- as an argument, r. ws are the cells.
-use Rattle.std.specs.Prelude.{ℕ, zero, suc, ◌/◌, ◌≤◌, ◌<◌, ◌≡◌, Bool, true, false, List, eqb, ltb, ℤ, pos, length}
+use Rattle.std.specs.Prelude.{ℕ, zero, suc, ◌≤◌, ◌<◌, ◌≡◌, true, false, List, eqb, ltb, ℤ, pos}
 use Rattle.primitive.specs.declared.slots.Slot.{Slot}
 use Rattle.primitive.specs.declared.slots.Slot.TheVariants.{At, Nothing}
-use Rattle.values.specs.declared.Value.{Value}
 use Rattle.primitive.specs.Slots.{slot_of}
 use Rattle.values.specs.Values.{value, is_zero}
 use Rattle.trees.specs.declared.cells.Op.{Op}

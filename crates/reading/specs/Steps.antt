@@ -1,5 +1,5 @@
 -- The steps of a read that evaluate nothing. N is the node table, L the link table.
-use Rattle.std.specs.Prelude.{ℕ, Bool, true, false, not, List}
+use Rattle.std.specs.Prelude.{ℕ, true, false, not, List}
 use Rattle.primitive.specs.declared.slots.Slot.{Slot}
 use Rattle.primitive.specs.declared.slots.Slot.TheVariants.{At, Nothing}
 use Rattle.values.specs.declared.Value.{Value}

@@ -1,5 +1,5 @@
 -- The three tables that a read changes, and what is found in them: the values of a node, the evaluation cycle; and the rank of a node.
-use Rattle.std.specs.Prelude.{ℕ, suc, ◌+◌, ◌*◌, ◌%◌, ◌^◌, Bool, List, ℤ, get_or, set}
+use Rattle.std.specs.Prelude.{ℕ, ◌+◌, ◌*◌, ◌%◌, ◌^◌, Bool, List, ℤ, get_or, set}
 use Rattle.values.specs.declared.Value.{Value}
 use Rattle.values.specs.Values.{value_at, set_value}
 use Rattle.primitive.specs.Words.{CYCLE}
