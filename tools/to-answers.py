@@ -233,7 +233,7 @@ def convert(crate, path, fns, opened, said):
         if m[2]:
             need = norm(m[3])
             need = re.sub(r'^overflow-', '', need)
-            goal = fn.goal.get(need)
+            goal = fn.goal.get(need) or fn.goal.get(re.sub(r'^slice-bounds-', 'part-', need))
             if goal is None:
                 if not any(norm(s) == need for s in fn.settled):
                     said.append('no goal for %s' % m[3])
