@@ -303,7 +303,7 @@ def convert(crate, path, fns, opened, said):
     if answers:
         body = '\n\n'.join(answers)
         body = body.replace('to_z-of_z (search', 'to_z-of_z {w = w64} (search')
-        uses += ['use Rattle.std.proofs.Common.{w64}']
+        uses += [] if any(re.search(r'[{ ]w64[,}]', l) for l in uses) else ['use Rattle.std.proofs.Common.{w64}']
         extra = ['use borrow.Author.Rules.{rules}'] if re.search(r'\brules\b', body) else []
         with open(path + '/Answers.antt', 'w', encoding='utf-8') as it:
             it.write('\n'.join(note + extra + used(uses, body) + ['use Rattle.%s.proofs.%s.Goals as goal' % (crate, module), '']) + '\n' + body + '\n')
