@@ -1,10 +1,10 @@
 -- What moving bytes to the front of a buffer leaves. Assumes nothing.
-use mathlib.Core.Path.{◌≡◌, refl, sym, ap, ◌∙◌}
+use mathlib.Core.Path.{◌≡◌, sym, ap, ◌∙◌}
 use mathlib.Core.List.{List, [], ◌∷◌, ◌++◌}
 use Prim.Native.Nat.{ℕ, zero, suc, ◌+◌, ◌-◌, ◌≤◌, ◌<◌, min}
 use native.Mathlib.Omega.{arith}
 use lib.ListN.{length, get_or, set, take, drop, length-take, length-drop, drop_of_length-le}
-use lib.Seq.{slice, paste, paste-suc, take-paste, take-nil, take_all, get_or-append-add, get_or-drop, length-take-le, take_at}
+use lib.Seq.{slice, paste, paste-suc, take-paste, take-nil, get_or-append-add, get_or-drop, length-take-le, take_at}
 use native.Mathlib.Numerals.{add-one}
 
 same_take : (j k : ℕ) (l : List ℕ) → j ≡ k → take j l ≡ take k l

@@ -1,5 +1,5 @@
 -- A window on the input: a buffer, of which the bytes from `at` up to `end` are read and not yet used. Assumes nothing.
-use Rattle.std.specs.Prelude.{ℕ, ◌+◌, ◌≤◌, ◌<◌, ◌≡◌, Bool, true, false, List, length, get_or, take}
+use Rattle.std.specs.Prelude.{ℕ, ◌+◌, ◌≤◌, ◌<◌, ◌≡◌, Bool, true, List, length, get_or, take}
 use Rattle.std.proofs.Math.Seq.{slice}
 
 -- What is unread, as far as the buffer goes.

@@ -1,8 +1,13 @@
 #![tactic(auto)]
 
-// Descriptors: a window on what was read and not yet used, and all of what is to be written. What the system reads or writes, no contract can say.
+// Readers and writers: a window on what was read and not yet used, and all of what is to be written. What the system reads or writes, no contract
+// can say.
 ghost use Rattle.std.specs.Prelude.{length, ◌+◌, ◌<◌, ◌≤◌, min, max, false, ◌≡◌};
 ghost use Rattle.stream.specs.Windows.{Front, Filled, Spilled, Taken};
+
+use std::env::{Env, FillError};
+use std::io;
+use std::io::{Read, Write};
 
 // The unread bytes of a buffer go from `at` up to `end`. `over`: no more will come.
 #[derive(Clone, Copy)]
@@ -44,9 +49,14 @@ fn shift(buf: &mut [u8], at: usize, end: usize) -> usize
     to
 }
 
+// What failed, and the error's text, as a line on standard error. Where that can't be written there is nobody to tell.
+pub fn fail(rt: &impl Eprint, what: &str, error: io::Error) {
+    let _ = eprintln!(rt; "{what}: {error}");
+}
+
 // Moves what is unread to the front and reads once more behind it. An error is told on standard error, and the input is over
 // then, as at its end and where there is no room.
-pub fn fill(fd: i32, buf: &mut [u8], window: Window) -> Window
+pub fn fill<R: Read>(rt: &impl Eprint, from: &mut R, buf: &mut [u8], window: Window) -> Window
     ensures { Filled buf.old window.at window.end result.at result.end result.over buf.new }
 {
     let at = window.at;
@@ -59,31 +69,37 @@ pub fn fill(fd: i32, buf: &mut [u8], window: Window) -> Window
             over: true,
         };
     }
-    let part = &mut buf[n..];
-    let got = libc::read(fd, part);
-    if got < 0 {
-        os::fail(b"read");
-    }
-    let k = io::count(got, part);
-    Window {
-        at: 0,
-        end: n + k,
-        over: k == 0,
+    match from.read(&mut buf[n..]) {
+        Ok(k) => Window {
+            at: 0,
+            end: n + k,
+            over: k == 0,
+        },
+        Err(e) => {
+            fail(rt, "read", e);
+            Window {
+                at: 0,
+                end: n,
+                over: true,
+            }
+        }
     }
 }
 
 // Writes the first n bytes. An error is told on standard error; the answer is no then, and where there are not so many bytes.
-pub fn send(fd: i32, out: &[u8], n: usize) -> bool
+pub fn send<W: Write>(rt: &impl Eprint, to: &mut W, out: &[u8], n: usize) -> bool
     ensures { length out.now < n → result ≡ false }
 {
     if out.len() < n {
         return false;
     }
-    let sent = io::write_all(fd, &out[0..n]);
-    if !sent {
-        os::fail(b"write");
+    match to.write_all(&out[0..n]) {
+        Ok(()) => true,
+        Err(e) => {
+            fail(rt, "write", e);
+            false
+        }
     }
-    sent
 }
 
 // How much of a buffer is filled, and whether all that left it was written.
@@ -93,11 +109,11 @@ pub struct Sink {
     pub ok: bool,
 }
 
-fn emptied(fd: i32, out: &[u8], sink: Sink) -> Sink
+fn emptied<W: Write>(rt: &impl Eprint, to: &mut W, out: &[u8], sink: Sink) -> Sink
     ensures { result.at ≡ 0 }
 {
     let ok = sink.ok;
-    let sent = send(fd, out, sink.at);
+    let sent = send(rt, to, out, sink.at);
     if ok {
         return Sink { at: 0, ok: sent };
     }
@@ -105,16 +121,16 @@ fn emptied(fd: i32, out: &[u8], sink: Sink) -> Sink
 }
 
 // Writes what is there unless room for 256 bytes is left.
-pub fn spill(fd: i32, out: &[u8], sink: Sink) -> Sink
+pub fn spill<W: Write>(rt: &impl Eprint, to: &mut W, out: &[u8], sink: Sink) -> Sink
     ensures { Spilled (length out.now) sink.at result.at }
 {
     if out.len() < 256 {
-        return emptied(fd, out, sink);
+        return emptied(rt, to, out, sink);
     }
     if sink.at <= out.len() - 256 {
         return sink;
     }
-    emptied(fd, out, sink)
+    emptied(rt, to, out, sink)
 }
 
 fn wide(b: u8) -> u64
@@ -124,14 +140,14 @@ fn wide(b: u8) -> u64
 }
 
 // Nothing is unread, so more is read.
-fn read_on(fd: i32, buf: &mut [u8], window: Window) -> Got {
+fn read_on<R: Read>(rt: &impl Eprint, from: &mut R, buf: &mut [u8], window: Window) -> Got {
     if window.over {
         return Got {
             byte: 256,
             window: window,
         };
     }
-    let more = fill(fd, buf, window);
+    let more = fill(rt, from, buf, window);
     let end = more.end;
     let over = more.over;
     if end == 0 {
@@ -157,17 +173,17 @@ fn read_on(fd: i32, buf: &mut [u8], window: Window) -> Got {
 }
 
 // The next byte through a window: the first that is unread, or one more read.
-pub fn next(fd: i32, buf: &mut [u8], window: Window) -> Got
+pub fn next<R: Read>(rt: &impl Eprint, from: &mut R, buf: &mut [u8], window: Window) -> Got
     ensures { Taken buf.old window.at window.end result.byte result.window.at result.window.end buf.new }
 {
     let at = window.at;
     let end = window.end;
     let over = window.over;
     if end <= at {
-        return read_on(fd, buf, window);
+        return read_on(rt, from, buf, window);
     }
     if buf.len() <= at {
-        return read_on(fd, buf, window);
+        return read_on(rt, from, buf, window);
     }
     Got {
         byte: wide(buf[at]),
@@ -221,13 +237,38 @@ fn spelled(text: &[u8]) -> u64
 }
 
 // The number that argument i of the program spells, or 10,000 where it spells none below it.
-pub fn number_argument(i: usize) -> u64
+pub fn number_argument(rt: &impl Env, i: usize) -> u64
     ensures { result ≤ 10000 }
 {
     let mut text = [0u8; 16];
-    let n = os::arg(i, &mut text);
-    if os::errno() != 0 {
-        return NONE;
+    match rt.arg(i, &mut text) {
+        Ok(n) => spelled(&text[..n]),
+        Err(_) => NONE,
     }
-    spelled(&text[..n])
+}
+
+// Argument i at the start of a buffer: its length, or 0 where there is none or it does not fit.
+pub fn argument(rt: &impl Env, i: usize, buf: &mut [u8]) -> usize
+    ensures { result ≤ length buf.new }
+{
+    rt.arg(i, buf).unwrap_or(0)
+}
+
+fn is_there(rt: &impl Env, i: usize) -> bool {
+    let mut text = [0u8; 1];
+    match rt.arg(i, &mut text) {
+        Ok(_) => true,
+        Err(FillError::TooLong) => true,
+        Err(FillError::NotPresent) => false,
+    }
+}
+
+// How many arguments the program was started with, its own name among them.
+pub fn argument_count(rt: &impl Env) -> usize {
+    for i in 0..usize::MAX {
+        if !is_there(rt, i) {
+            return i;
+        }
+    }
+    usize::MAX
 }
