@@ -1,13 +1,17 @@
 -- Many scripts in one stream, as oracle/README.md sets it out. A window is what was read and not yet used; `over` says that no more will come.
 -- Assumes nothing.
 use Rattle.std.specs.Prelude.{ℕ, ◌+◌, ◌-◌, Bool, true, false, List, eqb, ltb, length, get_or, drop}
-use Rattle.bytes.specs.Bytes.{index_of}
+use Rattle.std.specs.List.{position_or_len}
 use Rattle.packs.specs.declared.Mark.{Mark}
 use Rattle.packs.specs.declared.Mark.TheVariants.{Unknown, Other, Plain, Cut}
 use Rattle.packs.specs.declared.Act.{Act}
 use Rattle.packs.specs.declared.Act.TheVariants.{Read, Turn, Script, Within, Past, Stop}
 use Rattle.packs.specs.declared.Place.{Place}
 use Rattle.packs.specs.declared.Place.TheVariants.{Open, InLine, AtLine}
+
+-- The index of the first n, or the length where there is none.
+abbrev pub index_of : ℕ → List ℕ → ℕ
+index_of n xs = position_or_len (λ x. eqb x n) xs
 
 -- Behind the first newline, or 0 where there is none.
 unfoldable pub line_of : List ℕ → ℕ

@@ -2,10 +2,9 @@
 
 // Many scripts in one stream, as oracle/README.md sets it out: each is followed by a line `%`, or by a line `%cut` where the newline before that
 // line is no part of the script.
-ghost use Rattle.std.specs.Prelude.{◌≡◌, ◌<◌, ◌≤◌, length};
+ghost use Rattle.std.specs.Prelude.{◌≡◌, ◌<◌, ◌≤◌, ◌==◌, length};
+ghost use Rattle.std.specs.List.{position};
 ghost use Rattle.packs.specs.Packs.{line_of, mark_of, unended_in, pair_in, second_in, first_in, open_in, rest_in, line_in, decided};
-
-use bytes::scan::find;
 
 // Whether the line that a window begins with follows a script.
 #[derive(Clone, Copy)]
@@ -39,13 +38,22 @@ pub enum Act {
     Stop,
 }
 
+// The place of the first newline.
+fn newline(w: &[u8]) -> Option<usize>
+    ensures { result ≡ position (λ b. b == 10) w.now }
+{
+    w.iter().position(|b| *b == 10)
+}
+
 // Behind the first newline, or 0 where there is none.
 fn line(w: &[u8]) -> usize
     ensures exact { result ≡ line_of w.now }
     ensures within { result ≤ length w.now }
 {
-    let i = find(w, 0, w.len(), 10);
-    if i < w.len() { i + 1 } else { 0 }
+    match newline(w) {
+        Some(i) => i + 1,
+        None => 0,
+    }
 }
 
 fn marked(w: &[u8]) -> Mark
