@@ -30,14 +30,14 @@ def load(crate):
 
 
 def writers():
-    """The parameters that each function is passed as &mut, in their order, and those of them that are slices."""
+    """The parameters of each function that are references, in their order, and those of them that are slices."""
     out = {}
     for folder, dirs, files in os.walk('crates'):
         for name in files:
             if name.endswith('.rt') and '/src' in folder:
                 for m in re.finditer(r'\bfn (\w+)(?:<[^>]*>)?\(([^)]*)\)', open(os.path.join(folder, name), encoding='utf-8').read()):
                     crate = folder.split('/')[1]
-                    given = [g for g in (re.match(r'\s*(?:&mut (self)|(\w+): &mut (\[)?)', a) for a in m[2].split(',')) if g]
+                    given = [g for g in (re.match(r'\s*(?:&(?:mut )?(self)|(\w+): &(?:mut )?(\[)?)', a) for a in m[2].split(',')) if g]
                     out.setdefault((crate, m[1]), ([g[1] or g[2] for g in given], [g[2] for g in given if g[3]]))
     return out
 
