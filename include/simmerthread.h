@@ -14,7 +14,7 @@
  *   - nobody else touches these during a call. Two threads may work on two sets of tables, not on one;
  *   - the calling thread has stack enough, which no proof bounds: 1 MiB is three times what we measured (docs/HOST.md).
  *
- * Build: `rt staticlib host` writes target/staticlib/libhost.a (x86-64 Linux). Then
+ * Build: `tools/build library` writes target/staticlib/libhost.a (x86-64 Linux). Then
  *
  *   cc -Iinclude program.c target/staticlib/libhost.a
  *

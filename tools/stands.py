@@ -4,10 +4,10 @@ import os
 import re
 import sys
 
-NAMED = re.compile(r'Rattle·([a-z_]+)[.·]|(?<![\w:])([a-z_]+)::')
+NAMED = re.compile(r'Rattle\.([a-z_]+)\.|(?<![\w:])([a-z_]+)::')
 KIT = {'bytes', 'io', 'libc', 'os'}
 lines = [l.split('#')[0].strip() for l in open('crates.txt', encoding='utf-8')]
-listed = {l.split(':')[0]: set(l.split(':')[1].split()) for l in lines if l}
+listed = {l.split(':')[0].split()[0]: set(l.split(':')[1].split()) for l in lines if l}
 
 
 def named(crate):

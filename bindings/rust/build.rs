@@ -1,4 +1,4 @@
-//! Links the static library. It is where `rt staticlib host` writes it, or in the folder that SIMMERTHREAD_LIB names.
+//! Links the static library. It is where `tools/build library` writes it, or in the folder that SIMMERTHREAD_LIB names.
 
 use std::env;
 use std::path::PathBuf;
@@ -16,7 +16,7 @@ fn main() {
     println!("cargo::rerun-if-changed={}", archive.display());
     if !archive.exists() {
         println!(
-            "cargo::error=no {}: run `rt staticlib host` at the repository's top, or name its folder in SIMMERTHREAD_LIB",
+            "cargo::error=no {}: run `tools/build library` at the repository's top, or name its folder in SIMMERTHREAD_LIB",
             archive.display()
         );
         return;
