@@ -1,10 +1,10 @@
 -- The ways through the decision and the answer, one law each. Assumes nothing.
 use mathlib.Core.Path.{◌≡◌, refl, sym, ap, ◌∙◌, subst}
-use mathlib.Core.Bool.{Bool, true, false, ◌&&◌}
+use mathlib.Core.Bool.{Bool, true, false}
 use mathlib.Core.List.{List}
 use Prim.Native.Nat.{ℕ, zero, suc, ◌+◌, ◌/◌, ◌^◌, ◌<◌}
 use native.Mathlib.Numerals.{add-one}
-use lib.IntN.{ℤ, pos, negsuc}
+use lib.IntN.{ℤ, pos}
 use lib.ListN.{length}
 use mir.Syntax.{w64}
 use mir.Val.{SFits}
@@ -21,7 +21,7 @@ use Rattle.linking.specs.Ring.{disposed}
 use Rattle.reading.specs.Tables.{State, state, Got}
 use Rattle.reading.specs.Read.{read_of}
 use Rattle.meaning.specs.Words.{command_of, node_of}
-use Rattle.meaning.specs.Refusals.{Sight, table, first, refusal}
+use Rattle.meaning.specs.Refusals.{table, first, refusal}
 use Rattle.refusing.specs.declared.commands.Command.{Command}
 use Rattle.refusing.specs.declared.commands.Command.TheVariants.{Signal, Computed, Effect, Scope, Set, Add, Read, Dispose, Start, End, Unknown}
 use Rattle.refusing.specs.Sight.{sight_in}

@@ -1,6 +1,6 @@
 -- One command: decided, and then done.
 use Rattle.std.specs.Prelude.{Bool, List, ℕ, zero, suc, ◌/◌, ℤ, pos, length}
-use Rattle.reading.specs.Tables.{State, state}
+use Rattle.reading.specs.Tables.{state}
 use Rattle.meaning.specs.Words.{command_of}
 use Rattle.meaning.specs.Refusals.{refusal}
 use Rattle.refusing.specs.Sight.{sight_in}

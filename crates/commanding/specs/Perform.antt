@@ -1,6 +1,5 @@
 -- Document 01, "Commands": doing, one line a command. Deciding stands in the crate `refusing`.
-use Rattle.std.specs.Prelude.{List, ℕ, zero, suc, ℤ, pos, negsuc}
-use Rattle.values.specs.declared.Value.{Value}
+use Rattle.std.specs.Prelude.{List, ℕ, suc, ℤ, pos, negsuc}
 use Rattle.values.specs.Values.{value}
 use Rattle.linking.specs.Table.{tab}
 use Rattle.linking.specs.Ring.{disposed}
@@ -12,7 +11,7 @@ use Rattle.refusing.specs.declared.commands.Command.TheVariants.{Signal, Compute
 use Rattle.operating.specs.Log.{Ran, ran_to, number_word}
 use Rattle.operating.specs.Batches.{started, ended_batch}
 use Rattle.operating.specs.Writes.{written, added}
-use Rattle.operating.specs.Making.{Made, new_signal, new_computed, new_scope, Started, new_effect}
+use Rattle.operating.specs.Making.{Made, new_signal, new_computed, new_scope, new_effect}
 
 -- the value returned, the tables and the log after it
 pub record Done : Type 0 where
