@@ -39,6 +39,7 @@ chain_agree g h p (y ∷ ys) c d = (c.0 ∙ sym d.0, at (chain_agree g h (suc y)
     at r x (inr i) = r.1 x i
 
 pub back_agree : (P Q : ℕ → ℕ) (p : ℕ) (xs : List ℕ) → Back P p xs → Back Q p xs → (x : ℕ) → In x xs → P x ≡ Q x
+back_agree P Q p [] b c x x5 = elim x5 [ ]
 back_agree P Q p (y ∷ ys) b c x (inl e) = subst (λ (z : ℕ). P z ≡ Q z) (sym e) (b.0 ∙ sym c.0)
 back_agree P Q p (y ∷ ys) b c x (inr i) = back_agree P Q (suc y) ys b.1 c.1 x i
 
@@ -57,6 +58,7 @@ module _ (L : List ℕ) (own prev next n : ℕ) where
   listed_tail p w (x ∷ xs) tail c = listed_tail (suc x) (link L x next) xs tail c.4
 
   pub listed_in : (p w : ℕ) (xs : List ℕ) (tail : ℕ) → Listed L own prev next n p w xs tail → (x : ℕ) → In x xs → (is_live_slot L x ≡ true) × (link L x own ≡ n)
+  listed_in p w [] tail c x x4 = elim x4 [ ]
   listed_in p w (y ∷ ys) tail c x (inl e) = subst (λ (z : ℕ). (is_live_slot L z ≡ true) × (link L z own ≡ n)) (sym e) (c.1, c.2)
   listed_in p w (y ∷ ys) tail c x (inr i) = listed_in (suc y) (link L y next) ys tail c.4 x i
 
@@ -79,5 +81,6 @@ module _ (L : List ℕ) (g : ℕ → ℕ) (k : (x : ℕ) → g (suc x) ≡ link 
       (sym e ∙ c.0, q.0, q.1, to_free (suc x) (link L x NEXT-DEP) xs (k x) c.1 (λ y i. h y (inr i)))
 
 pub free_in : (L : List ℕ) (w : ℕ) (xs : List ℕ) → FreeList L w xs → (x : ℕ) → In x xs → (x < slot_room L) × (is_live_slot L x ≡ false)
+free_in L w [] c x x4 = elim x4 [ ]
 free_in L w (y ∷ ys) c x (inl e) = subst (λ (z : ℕ). (z < slot_room L) × (is_live_slot L z ≡ false)) (sym e) (c.1, c.2)
 free_in L w (y ∷ ys) c x (inr i) = free_in L (link L y NEXT-DEP) ys c.3 x i

@@ -12,6 +12,7 @@ use Rattle.structure.specs.Chains.{first_word, last_word, Chain, Back}
 
 -- ---- lists
 pub in_split : (l : ℕ) (xs : List ℕ) → In l xs → (ys : List ℕ) × (zs : List ℕ) × (xs ≡ ys ++ l ∷ zs)
+in_split l [] x' = elim x' [ ]
 in_split l (x ∷ xs) (inl e) = ([], xs, ap (λ (z : ℕ). z ∷ xs) (sym e))
 in_split l (x ∷ xs) (inr i) = let r = in_split l xs i in (x ∷ r.0, r.1, ap (λ (z : List ℕ). x ∷ z) r.2)
 

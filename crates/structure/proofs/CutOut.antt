@@ -19,7 +19,7 @@ use Rattle.linking.proofs.FreeLaws.{released_live, released_freed, released_othe
 use Rattle.linking.proofs.Kept.{untouched_kept}
 use Rattle.resting.specs.Linked.{dependencies, subscribers}
 use Rattle.meaning.specs.State.{St, up, deps}
-use Rattle.meaning.specs.Links.{provided, remove, cut}
+use Rattle.meaning.specs.Links.{remove, cut}
 use Rattle.meaning.specs.WellFormed.{In, Once}
 use Rattle.meaning.proofs.Laws.{clash, either, up_same, up_other, up_by}
 use Rattle.meaning.proofs.Members.{remove_absent, remove_append, once_apart}

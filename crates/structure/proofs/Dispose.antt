@@ -3,7 +3,7 @@ use mathlib.Core.Path.{◌≡◌, refl, sym, ap, ap₂, ◌∙◌, subst}
 use mathlib.Core.Bool.{true, false}
 use mathlib.Core.Logic.{inl, inr}
 use mathlib.Core.List.{List, [], ◌∷◌, ◌++◌}
-use Prim.Native.Nat.{ℕ, zero, suc, ◌+◌, ◌<◌, ◌≤◌}
+use Prim.Native.Nat.{ℕ, zero, suc, ◌<◌, ◌≤◌}
 use native.Mathlib.Omega.{arith}
 use lib.IntN.{ℤ}
 use Rattle.flags.specs.declared.Named.{Named}
@@ -91,6 +91,7 @@ module _ (g : Given) (st : Static g) (ran : List ℕ) (W C : List ℤ) where
     i_begun = gone_inside g X (set_fl (rewind s x) x f0) x (flags_inside g X (rewind s x) x (rewind_inside g X s x wide (inr refl)) (inr refl) f0 (λ z. refl)) (inr refl) q
 
     away : (m : ℕ) → Strict g st x m → X m → ⊥
+    away m p (inl x'') = elim x'' [ ]
     away m p (inr z) = p.1 z
 
     same_slots_lem : K ≡ g.room.slots
@@ -135,6 +136,7 @@ module _ (g : Given) (st : Static g) (ran : List ℕ) (W C : List ℤ) where
       near = inr (turned.2.rests p p_low (λ z. not_x z)).tail
         where
           not_x : X p → ⊥
+          not_x (inl x'') = elim x'' [ ]
           not_x (inr z) = p_other (sym z)
 
       abbrev c : St

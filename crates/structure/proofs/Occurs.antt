@@ -12,6 +12,7 @@ use Rattle.meaning.specs.WellFormed.{In, Once}
 use Rattle.meaning.proofs.Laws.{either}
 
 pub in_occ : (x : ℕ) (xs : List ℕ) → In x xs → 1 ≤ occ x xs
+in_occ x [] x'' = elim x'' [ ]
 in_occ x (y ∷ ys) (inl e) = omega (arith, occ_cons x y ys, bit_true (eqb x y) (eq-eqb x y e))
 in_occ x (y ∷ ys) (inr i) = omega (arith, occ_cons x y ys, in_occ x ys i)
 
@@ -41,6 +42,7 @@ pub in_once : (x : ℕ) (xs : List ℕ) → Once xs → In x xs → occ x xs ≡
 in_once x xs o i = omega (arith, once_occ xs o x, in_occ x xs i)
 
 pub all_in : (R : ℕ → Type 0) (xs : List ℕ) → All R xs → (x : ℕ) → In x xs → R x
+all_in R [] a x x4 = elim x4 [ ]
 all_in R (y ∷ ys) a x (inl e) = subst R (sym e) a.0
 all_in R (y ∷ ys) a x (inr i) = all_in R ys a.1 x i
 

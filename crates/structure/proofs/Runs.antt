@@ -53,6 +53,7 @@ module _ (g : Given) (st : Static g) (C : List ℤ) (before : List ℕ) (e : ℕ
   low_in t i = subst (λ (z : Given). e < z.size) (sym i.same) he
 
   apart : (m : ℕ) → Under g e m × (m ≡ e → ⊥) → Run g st e m → ⊥
+  apart m p (inl x') = elim x' [ ]
   apart m p (inr q) = p.1 q
 
   log_still : (s t : St) → Still s t → t.log ≡ s.log

@@ -276,10 +276,12 @@ module _ (N L : List ℕ) (W C : List ℤ) (d : Described N L W C) (j : Joined N
 
   -- ---- formulas and limits
   all_known : (ns : List ℕ) → AllReadable N ns → (m : ℕ) → In m ns → readable_in N m ≡ true
+  all_known [] a m x'' = elim x'' [ ]
   all_known (n ∷ ns) a m (inl e) = subst (λ (x : ℕ). readable_in N x ≡ true) (sym e) a.0
   all_known (n ∷ ns) a m (inr i) = all_known ns a.1 m i
 
   all_are_lower : (ns : List ℕ) (n : ℕ) → AllLower ns n → (m : ℕ) → In m ns → m < n
+  all_are_lower [] n a m x'' = elim x'' [ ]
   all_are_lower (k ∷ ns) n a m (inl e) = let b = a.0 in omega arith
   all_are_lower (k ∷ ns) n a m (inr i) = all_are_lower ns n a.1 m i
 
