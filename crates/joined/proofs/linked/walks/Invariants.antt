@@ -1,0 +1,10 @@
+-- `joined::linked::walks` meets its contract. Assumes nothing.
+use Rattle.resting.specs.Linked.{walks}
+use mathlib.Core.Path.{◌≡◌}
+use Rattle.joined.proofs.linked.walks.Given as goal
+
+abbrev pub invariant-loop-n : goal.invariant-loop-n
+invariant-loop-n l = walks l.nodes l.links l.side l.initial.n l.initial.left ≡ walks l.nodes l.links l.side l.n l.left
+
+abbrev pub decreases-loop-n : goal.decreases-loop-n
+decreases-loop-n l = l.n
