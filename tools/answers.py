@@ -1,9 +1,10 @@
 #!/usr/bin/env python3
 """answers.py: has the promise of every public function one answer? Counts what is shown, and names what is not.
-A function that another crate can name: a theorem of crates/tight/proofs, `pub one-NAME : OneAnswer NAME-kinds.ps NAME-kinds.r NAME.Learnt`, where
-NAME.Learnt is what the function's own contract tells a caller, as the checker reads it; that it holds is the checker's word, this only finds it.
-One that no other crate can name, or of a crate that reaches the system: by the form of its contract, an equation for the answer and for each
-`&mut`; or by a law of crates/tight/proofs/Rings.antt. An exception stands in docs/ONE-ANSWER.md, with its reason.
+A function that another crate can name: a theorem of crates/tight/proofs, `pub one_NAME : OneAnswer KINDS.ps KINDS.r READS.Learnt`, where KINDS and
+READS are the function's own modules, and Learnt is what its contract tells a caller, as the checker reads it; that it holds is the checker's
+word, this only finds it. One that no other crate can name, as the exports of a static library, or of a crate that reaches the system: by the
+form of its contract, an equation for the answer and for each `&mut`; or by a law of crates/tight/proofs/Rings.antt. An exception stands in
+docs/ONE-ANSWER.md, with its reason.
 `answers.py CRATE` prints the theorems of a crate, as they are proved where the contract is an equation."""
 import os
 import re
@@ -17,7 +18,7 @@ def builders():
         folder = 'crates/%s/specs' % crate
         for f in sorted(os.listdir(folder)) if os.path.isdir(folder) else []:
             text = open(os.path.join(folder, f), encoding='utf-8').read()
-            for m in re.finditer(r'^abbrev pub (\w+) :[^\n]*\n(\w+) ([\w ]+?) =\s+record \{ ([^}]*) \}', text, re.M):
+            for m in re.finditer(r"^abbrev pub ([\w']+) :[^\n]*\n([\w']+) ([\w' ]+?) =\s+record \{\s*([^}]*?)\s*\}", text, re.M):
                 args = m.group(3).split()
                 fields = dict((v.strip(), k.strip()) for k, v in (p.split('=', 1) for p in m.group(4).split(';') if '=' in p))
                 if m.group(1) == m.group(2) and all(a in fields for a in args):
@@ -25,7 +26,11 @@ def builders():
 
 
 def listed():
-    return [l.split(':')[0].strip() for l in open('crates.txt', encoding='utf-8') if l.split('#')[0].strip()]
+    return [l.split(':')[0].split()[0] for l in open('crates.txt', encoding='utf-8') if l.split('#')[0].strip()]
+
+
+def is_static(crate):
+    return any(re.match(r'%s +staticlib\b' % crate, l) for l in open('crates.txt', encoding='utf-8'))
 
 
 def functions(crate):
@@ -53,16 +58,18 @@ def functions(crate):
 
 def exported(crate, module):
     """whether another crate can name what stands in the module."""
+    if is_static(crate):
+        return False
     root = open('crates/%s/src/lib.rt' % crate, encoding='utf-8').read()
     return not module or re.search(r'^pub mod %s;' % module[0], root, re.M) is not None
 
 
 def path(crate, module, of, name):
-    return 'Rattle·%s.proofs.%s' % (crate, '.'.join(module + of + [name]))
+    return 'Rattle.%s.proofs.%s' % (crate, '.'.join(module + of + [name]))
 
 
 def alias(module, name):
-    return '-'.join(module + [name]).replace('_', '-')
+    return '_'.join(module + [name])
 
 
 # ---- printing the theorems of a crate
@@ -90,7 +97,7 @@ def parts(crate, term, at, found):
     """where in the record that a clause speaks of each of its parts stands: found[part] = path of fields."""
     term = whole(term)
     words = split_args(term)
-    if re.fullmatch(r'r( \.\w+)*|now r', term) or re.fullmatch(r'now \(\w+ \.exit\)', term):
+    if re.fullmatch(r'result(\.\w+)*|\w+\.new', term):
         found[term] = at
         return True
     for (c, name), fields in sorted(BUILDERS.items(), key=lambda b: b[0][0] != crate):
@@ -111,12 +118,24 @@ def sides(claim):
     return None
 
 
+def clauses(head):
+    """the text of each `ensures`."""
+    found = []
+    for m in re.finditer(r'ensures\s*\w*\s*\{', head):
+        i, depth = m.end(), 1
+        while depth:
+            depth += (head[i] == '{') - (head[i] == '}')
+            i += 1
+        found.append(head[m.end():i - 1].strip())
+    return found
+
+
 def claims(head):
     """(proof of the equation from p and from q, left side) for each equation of the clauses."""
-    bodies = [whole(b.strip()) for b in re.findall(r'ensures\s*\w*\s*\{ λ \w+\. ⌜ (.*?) ⌝ \}', head)]
+    bodies = [whole(b) for b in clauses(head)]
     out = []
     for k, body in enumerate(bodies):
-        at = '' if len(bodies) == 1 else ' .0' if k == 0 else ' .1'
+        at = '' if len(bodies) == 1 else '.0' if k == 0 else '.1'
         if len(bodies) > 2:
             return None
         m = re.fullmatch(r'\((\w) : List [ℕℤ]\) → (.*)', body)
@@ -127,9 +146,9 @@ def claims(head):
         pair = re.fullmatch(r'\((.*)\) × \((.*)\)', body)
         for j, part in enumerate([pair.group(1), pair.group(2)] if pair else [body]):
             two = sides(part)
-            if not two or re.search(r'\.exit\b|(?<![\w·.-])r(?![\w·-])', two[1]):
+            if not two or re.search(r"\.new\b|(?<![\w.'])result(?![\w'])", two[1]):
                 return None
-            where = at + (' .%d' % j if pair else '')
+            where = at + ('.%d' % j if pair else '')
             out.append((use % ('p' + where), use % ('q' + where), two[0]))
     return out
 
@@ -149,31 +168,31 @@ def proof(crate, module, head, text):
             return None
         lets.append('let %s = %s ∙ sym %s in' % (e, '(%s)' % p if ' []' in p else p, '(%s)' % q if ' ' in q else q))
         for part, fields in mine.items():
-            found[part] = ''.join([e, ' i'] + [' .' + f for f in fields])
+            found[part] = ('(%s i)' % e if fields else '%s i' % e) + ''.join('.' + f for f in fields)
     if answers is None:
         first = 'refl'
-    elif 'r' in found:
-        first = 'λ i. ' + found['r']
-    elif 'now r' in found:  # a part of what was lent: its words
-        first = 'λ i. ' + found['now r']
+    elif 'result' in found:
+        first = 'λ i. ' + found['result']
+    elif 'result.now' in found:  # a part of what was lent: its words
+        first = 'λ i. ' + found['result.now']
     else:
-        fields = sorted(x for x in found if x.startswith('r .'))
+        fields = sorted(x for x in found if x.startswith('result.'))
         struct = re.search(r'pub struct %s \{(.*?)\}' % answers, ''.join(open(os.path.join(d, f), encoding='utf-8').read() for d in ['crates/%s/src' % c for c in listed()] for f in os.listdir(d)), re.S)
         if not struct:
             return None
         want = [f.split(':')[0].replace('pub', '').strip() for f in re.sub(r'//[^\n]*', '', struct.group(1)).split(',') if f.strip()]
-        if sorted('r .' + w for w in want) != fields:
+        if sorted('result.' + w for w in want) != fields:
             return None
-        first = 'λ i. record { %s }' % '; '.join('%s = %s' % (w, found['r .' + w]) for w in want)
+        first = 'λ i. record { %s }' % '; '.join('%s = %s' % (w, found['result.' + w]) for w in want)
     muts = [(x.split(':')[0].strip(), '&mut' in x) for x in params]
     if not any(b for _, b in muts):
         second = 'refl'
     else:
-        if any(b and 'now (%s .exit)' % n not in found for n, b in muts):
+        if any(b and n + '.new' not in found for n, b in muts):
             return None
         second = 'tt'
         for n, b in reversed(muts):
-            second = '(%s, %s)' % (found['now (%s .exit)' % n] if b else 'tt', second)
+            second = '(%s, %s)' % (found[n + '.new'] if b else 'tt', second)
         second = 'λ i. ' + second
     return lets, first, second
 
@@ -185,11 +204,11 @@ def write(crate):
             continue
         x = alias(module, name)
         made = proof(crate, module, head, text)
-        uses += ['use %s.Kinds as %s-kinds' % (path(crate, module, of, name), x), 'use %s.Reads as %s' % (path(crate, module, of, name), x)]
-        lines += ['', 'pub one-%s : OneAnswer %s-kinds.ps %s-kinds.r %s.Learnt' % (x, x, x, x)]
+        uses += ['use %s.Kinds as %s_kinds' % (path(crate, module, of, name), x), 'use %s.Reads as %s' % (path(crate, module, of, name), x)]
+        lines += ['', 'pub one_%s : OneAnswer %s_kinds.ps %s_kinds.r %s.Learnt' % (x, x, x, x)]
         if made is None:
             left.append(x)
-            lines += ['one-%s κs a x y v w p q = ?' % x]
+            lines += ['one_%s κs a x y v w p q = ?' % x]
             continue
         lets, first, second = made
         pair = '(%s, %s)' % (first, second)
@@ -198,14 +217,14 @@ def write(crate):
             if len(re.findall(r'\be i\b', pair)) == 1:
                 pair = re.sub(r'\be i\b', '(p ∙ sym q) i', pair)
             if not re.search(r'\be i\b', pair):
-                lines += ['one-%s κs a x y v w p q = %s' % (x, pair)]
+                lines += ['one_%s κs a x y v w p q = %s' % (x, pair)]
                 continue
-        lines += ['one-%s κs a x y v w p q =' % x] + ['    ' + l for l in lets] + ['    ' + pair]
+        lines += ['one_%s κs a x y v w p q =' % x] + ['    ' + l for l in lets] + ['    ' + pair]
     print('-- The promise of each public function of `%s` has one answer. Assumes nothing.' % crate)
-    print('use mathlib.Core.Path.{refl, sym, _∙_}')
+    print('use mathlib.Core.Path.{refl, sym, ◌∙◌}')
     if any('[]' in l for l in lines):
-        print('use mathlib.Core.List.{[]}')
-    print('use Rattle·tight·specs.specs.OneAnswer.{OneAnswer}')
+        print('use Rattle.std.specs.Prelude.{[]}')
+    print('use Rattle.tight.specs.OneAnswer.{OneAnswer}')
     print('\n'.join(uses + lines))
     for x in left:
         print('by hand: ' + x, file=sys.stderr)
@@ -217,19 +236,18 @@ SYSTEM = ('stream', 'simmer', 'trace')
 
 def theorem(crate, module, of, name):
     file = 'crates/tight/proofs/Of%s.antt' % crate.capitalize()
-    lines = open(file, encoding='utf-8').read().split('\n') if os.path.isfile(file) else []
-    where, x = path(crate, module, of, name), alias(module, name)
-    return all(l in lines for l in (
-        'use %s.Kinds as %s-kinds' % (where, x),
-        'use %s.Reads as %s' % (where, x),
-        'pub one-%s : OneAnswer %s-kinds.ps %s-kinds.r %s.Learnt' % (x, x, x, x),
-    ))
+    text = open(file, encoding='utf-8').read() if os.path.isfile(file) else ''
+    uses = dict(re.findall(r'^use (\S+) as (\S+)$', text, re.M))
+    where = path(crate, module, of, name)
+    kinds, reads = uses.get(where + '.Kinds'), uses.get(where + '.Reads')
+    stated = r'^pub one_%s(?:_lem)? :\s+OneAnswer\s+%s\.ps\s+%s\.r\s+%s\.Learnt$' % tuple(map(re.escape, (alias(module, name), kinds or '', kinds or '', reads or '')))
+    return bool(kinds and reads and re.search(stated, text, re.M))
 
 
 def ring_law(head, laws):
-    bodies = re.findall(r'ensures \{ λ \w+\. ⌜ (\w+) (.*?) ⌝ \}', head)
+    bodies = clauses(head)
     muts = re.findall(r'(\w+): &mut', head)
-    return len(bodies) == 1 and 'pub %s-one :' % bodies[0][0].lower() in laws and all('now (%s .exit)' % m in bodies[0][1] for m in muts)
+    return len(bodies) == 1 and re.search(r'^pub %s_one :' % re.escape(bodies[0].split()[0].lower()), laws, re.M) is not None and all(m + '.new' in bodies[0] for m in muts)
 
 
 def count():

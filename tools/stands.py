@@ -5,7 +5,7 @@ import re
 import sys
 
 NAMED = re.compile(r'Rattle\.([a-z_]+)\.|(?<![\w:])([a-z_]+)::')
-KIT = {'bytes', 'io', 'libc', 'os'}
+KIT = {'bytes', 'io', 'libc', 'os'}  # libraries of the kit that a crate may name
 lines = [l.split('#')[0].strip() for l in open('crates.txt', encoding='utf-8')]
 listed = {l.split(':')[0].split()[0]: set(l.split(':')[1].split()) for l in lines if l}
 
@@ -16,7 +16,9 @@ def named(crate):
         for f in files:
             if f.endswith(('.rt', '.antt')):
                 text = re.sub(r'//[^\n]*', '', open(os.path.join(folder, f), encoding='utf-8').read())
-                found |= {a or b for a, b in NAMED.findall(text)}
+                # A module of std or of the crate that a `use` brings in is no crate of that name.
+                brought = {n for use in re.findall(r'(?m)^\s*use (?:std|core|crate|self|super)::([^;]*);', text) for n in re.findall(r'\w+', use)}
+                found |= {a or b for a, b in NAMED.findall(text) if a or b not in brought}
     return (found & (set(listed) | KIT)) - {crate}
 
 

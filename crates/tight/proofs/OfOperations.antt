@@ -9,8 +9,8 @@ use Rattle.operations.proofs.batches.end_batch.Kinds as batches-end-batch-kinds
 use Rattle.operations.proofs.batches.end_batch.Reads as batches-end-batch
 use Rattle.operations.proofs.emptying.empty.Kinds as emptying-empty-kinds
 use Rattle.operations.proofs.emptying.empty.Reads as emptying-empty
-use Rattle.operations.proofs.log.number_told.Kinds as log-number-word-kinds
-use Rattle.operations.proofs.log.number_told.Reads as log-number-word
+use Rattle.operations.proofs.log.number_word.Kinds as log-number-word-kinds
+use Rattle.operations.proofs.log.number_word.Reads as log-number-word
 use Rattle.operations.proofs.log.write_row.Kinds as log-write-row-kinds
 use Rattle.operations.proofs.log.write_row.Reads as log-write-row
 use Rattle.operations.proofs.runs.end_run.Kinds as runs-end-run-kinds
