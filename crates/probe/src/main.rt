@@ -6,11 +6,13 @@ mod read;
 mod show;
 
 use engine::command::{Answer, command};
-use libc::STDERR_FILENO;
 use operations::emptying::empty;
 use read::{Input, Sizes, integers, lengths, naturals};
 use show::show;
-use stream::{Window, least};
+use std::env::Env;
+use std::io;
+use std::io::Read;
+use stream::{Window, argument, argument_count, least};
 
 // What the arguments ask for.
 #[derive(Clone, Copy)]
@@ -58,6 +60,7 @@ fn acted(
 
 // Prints what came of a block, or says that it can't be read.
 fn told(
+    rt: &(impl Print + Eprint),
     nodes: &[u64],
     links: &[u64],
     values: &[i64],
@@ -67,13 +70,14 @@ fn told(
     good: bool,
 ) -> bool {
     if good {
-        return show(nodes, links, values, cells, log, answer);
+        return show(rt, nodes, links, values, cells, log, answer);
     }
-    io::write_all(STDERR_FILENO, b"probe: no such block\n");
+    let _ = rt.eprintln("probe: no such block");
     false
 }
 
 fn done(
+    rt: &(impl Print + Eprint),
     nodes: &mut [u64],
     links: &mut [u64],
     values: &mut [i64],
@@ -92,10 +96,12 @@ fn done(
         words,
         wanted(good, emptying),
     );
-    told(nodes, links, values, cells, log, answer, good)
+    told(rt, nodes, links, values, cells, log, answer, good)
 }
 
-fn tables(
+fn tables<R: Read>(
+    rt: &impl Eprint,
+    from: &mut R,
     nodes: &mut [u64],
     links: &mut [u64],
     values: &mut [i64],
@@ -103,19 +109,29 @@ fn tables(
     buf: &mut [u8],
     given: Sizes,
 ) -> Input {
-    let a = naturals(nodes, given.nodes, buf, given.input);
-    let b = naturals(links, given.links, buf, a);
-    let c = integers(values, given.values, buf, b);
-    integers(cells, given.cells, buf, c)
+    let a = naturals(rt, from, nodes, given.nodes, buf, given.input);
+    let b = naturals(rt, from, links, given.links, buf, a);
+    let c = integers(rt, from, values, given.values, buf, b);
+    integers(rt, from, cells, given.cells, buf, c)
 }
 
-fn rest(log: &mut [i64], words: &mut [i64], buf: &mut [u8], given: Sizes, input: Input) -> Input {
-    let a = integers(log, given.log, buf, input);
-    integers(words, given.words, buf, a)
+fn rest<R: Read>(
+    rt: &impl Eprint,
+    from: &mut R,
+    log: &mut [i64],
+    words: &mut [i64],
+    buf: &mut [u8],
+    given: Sizes,
+    input: Input,
+) -> Input {
+    let a = integers(rt, from, log, given.log, buf, input);
+    integers(rt, from, words, given.words, buf, a)
 }
 
 // The words of a block, and what comes of them.
-fn filled(
+fn filled<R: Read>(
+    rt: &(impl Print + Eprint),
+    from: &mut R,
     nodes: &mut [u64],
     links: &mut [u64],
     values: &mut [i64],
@@ -126,9 +142,11 @@ fn filled(
     given: Sizes,
     emptying: bool,
 ) -> Input {
-    let first = tables(nodes, links, values, cells, buf, given);
-    let all = rest(log, words, buf, given, first);
-    let more = done(nodes, links, values, cells, log, words, all.good, emptying);
+    let first = tables(rt, from, nodes, links, values, cells, buf, given);
+    let all = rest(rt, from, log, words, buf, given, first);
+    let more = done(
+        rt, nodes, links, values, cells, log, words, all.good, emptying,
+    );
     let window = all.window;
     Input {
         window: window,
@@ -137,7 +155,13 @@ fn filled(
 }
 
 // One block, on tables of its lengths. Room for one node, one slot and one cell more than the host's; tables that are longer can't be read.
-fn block(buf: &mut [u8], given: Sizes, emptying: bool) -> Input {
+fn block<R: Read>(
+    rt: &(impl Print + Eprint),
+    from: &mut R,
+    buf: &mut [u8],
+    given: Sizes,
+    emptying: bool,
+) -> Input {
     let n = least(given.nodes, 16448);
     let l = least(given.links, 65600);
     let v = least(given.values, 4128);
@@ -151,6 +175,8 @@ fn block(buf: &mut [u8], given: Sizes, emptying: bool) -> Input {
     let mut log = [0i64; 2112];
     let mut words = [0i64; 4096];
     filled(
+        rt,
+        from,
         &mut nodes[0..n],
         &mut links[0..l],
         &mut values[0..v],
@@ -186,13 +212,13 @@ fn is_empty(name: &[u8], n: usize) -> bool {
     name[4] == 121
 }
 
-fn by_arguments() -> Asked {
-    let count = os::arg_count();
+fn by_arguments(rt: &impl Env) -> Asked {
+    let count = argument_count(rt);
     if count < 2 {
         return Asked::Commands;
     }
     let mut name = [0u8; 16];
-    let n = os::arg(1, &mut name);
+    let n = argument(rt, 1, &mut name);
     if count > 2 {
         return Asked::Unknown;
     }
@@ -202,7 +228,8 @@ fn by_arguments() -> Asked {
     Asked::Unknown
 }
 
-fn run(emptying: bool) {
+fn run(rt: &(impl io::Input + Print + Eprint), emptying: bool) {
+    let mut from = rt.reader();
     let mut buf = [0u8; 16384];
     let mut input = Input {
         window: Window {
@@ -214,11 +241,11 @@ fn run(emptying: bool) {
     };
     let mut turns = u64::MAX;
     while turns > 0 {
-        let given = lengths(&mut buf, input);
+        let given = lengths(rt, &mut from, &mut buf, input);
         if given.ended {
             return;
         }
-        input = block(&mut buf, given, emptying);
+        input = block(rt, &mut from, &mut buf, given, emptying);
         if !input.good {
             return;
         }
@@ -226,12 +253,12 @@ fn run(emptying: bool) {
     }
 }
 
-fn main() {
-    match by_arguments() {
-        Asked::Commands => run(false),
-        Asked::Emptying => run(true),
+fn main(rt: HostRuntime) {
+    match by_arguments(&rt) {
+        Asked::Commands => run(&rt, false),
+        Asked::Emptying => run(&rt, true),
         Asked::Unknown => {
-            io::write_all(STDERR_FILENO, b"usage: probe [empty]\n");
+            let _ = rt.eprintln("usage: probe [empty]");
         }
     }
 }

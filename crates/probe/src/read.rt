@@ -1,6 +1,6 @@
 // Words of a block, read from standard input: numbers with white space between.
-use libc::STDIN_FILENO;
 use spelling::numbers::{Digits, Spelled};
+use std::io::Read;
 use stream::{Got, Window, least, next};
 use text::numbers::number;
 
@@ -49,14 +49,14 @@ struct SignedWord {
 const MOST: usize = 20;
 
 // The first byte that is no white space, or 256 at the end.
-fn visible(buf: &mut [u8], window: Window) -> Got {
-    let mut got = next(STDIN_FILENO, buf, window);
+fn visible<R: Read>(rt: &impl Eprint, from: &mut R, buf: &mut [u8], window: Window) -> Got {
+    let mut got = next(rt, from, buf, window);
     let mut turns = u64::MAX;
     while turns > 0 {
         if got.byte > 32 {
             return got;
         }
-        got = next(STDIN_FILENO, buf, got.window);
+        got = next(rt, from, buf, got.window);
         turns -= 1;
     }
     got
@@ -80,8 +80,14 @@ fn behind(long: usize, got: Got) -> Cut {
 }
 
 // The bytes up to the next white space, as many as `text` holds.
-fn piece(text: &mut [u8], buf: &mut [u8], window: Window) -> Cut {
-    let mut got = visible(buf, window);
+fn piece<R: Read>(
+    rt: &impl Eprint,
+    from: &mut R,
+    text: &mut [u8],
+    buf: &mut [u8],
+    window: Window,
+) -> Cut {
+    let mut got = visible(rt, from, buf, window);
     let mut long = 0;
     while long < text.len() {
         if parts(got.byte) {
@@ -89,7 +95,7 @@ fn piece(text: &mut [u8], buf: &mut [u8], window: Window) -> Cut {
         }
         text[long] = narrow(got.byte);
         long += 1;
-        got = next(STDIN_FILENO, buf, got.window);
+        got = next(rt, from, buf, got.window);
     }
     behind(long, got)
 }
@@ -155,15 +161,21 @@ fn fits(long: usize, good: bool) -> bool {
     if long > MOST { false } else { good }
 }
 
-fn natural_by(text: &mut [u8], buf: &mut [u8], input: Input) -> Word {
-    let p = piece(text, buf, input.window);
+fn natural_by<R: Read>(
+    rt: &impl Eprint,
+    from: &mut R,
+    text: &mut [u8],
+    buf: &mut [u8],
+    input: Input,
+) -> Word {
+    let p = piece(rt, from, text, buf, input.window);
     let long = least(p.long, text.len());
     as_natural(worth(&text[0..long]), long, p.window, input.good)
 }
 
-fn natural(buf: &mut [u8], input: Input) -> Word {
+fn natural<R: Read>(rt: &impl Eprint, from: &mut R, buf: &mut [u8], input: Input) -> Word {
     let mut text = [0u8; 24];
-    natural_by(&mut text, buf, input)
+    natural_by(rt, from, &mut text, buf, input)
 }
 
 fn as_integer(spelled: Spelled, window: Window, good: bool) -> SignedWord {
@@ -185,15 +197,21 @@ fn as_integer(spelled: Spelled, window: Window, good: bool) -> SignedWord {
     }
 }
 
-fn integer_by(text: &mut [u8], buf: &mut [u8], input: Input) -> SignedWord {
-    let p = piece(text, buf, input.window);
+fn integer_by<R: Read>(
+    rt: &impl Eprint,
+    from: &mut R,
+    text: &mut [u8],
+    buf: &mut [u8],
+    input: Input,
+) -> SignedWord {
+    let p = piece(rt, from, text, buf, input.window);
     let long = least(p.long, text.len());
     as_integer(number(&text[0..long]), p.window, fits(long, input.good))
 }
 
-fn integer(buf: &mut [u8], input: Input) -> SignedWord {
+fn integer<R: Read>(rt: &impl Eprint, from: &mut R, buf: &mut [u8], input: Input) -> SignedWord {
     let mut text = [0u8; 24];
-    integer_by(&mut text, buf, input)
+    integer_by(rt, from, &mut text, buf, input)
 }
 
 fn misfit(input: Input) -> Input {
@@ -205,7 +223,14 @@ fn misfit(input: Input) -> Input {
 }
 
 // The first n words of a table.
-pub(crate) fn naturals(t: &mut [u64], n: usize, buf: &mut [u8], input: Input) -> Input {
+pub(crate) fn naturals<R: Read>(
+    rt: &impl Eprint,
+    from: &mut R,
+    t: &mut [u64],
+    n: usize,
+    buf: &mut [u8],
+    input: Input,
+) -> Input {
     if t.len() < n {
         return misfit(input);
     }
@@ -215,7 +240,7 @@ pub(crate) fn naturals(t: &mut [u64], n: usize, buf: &mut [u8], input: Input) ->
         if !at.good {
             return at;
         }
-        let got = natural(buf, at);
+        let got = natural(rt, from, buf, at);
         t[i] = got.word;
         at = got.input;
         i += 1;
@@ -229,7 +254,14 @@ fn keep(t: &mut [i64], i: usize, v: i64) {
     }
 }
 
-pub(crate) fn integers(t: &mut [i64], n: usize, buf: &mut [u8], input: Input) -> Input {
+pub(crate) fn integers<R: Read>(
+    rt: &impl Eprint,
+    from: &mut R,
+    t: &mut [i64],
+    n: usize,
+    buf: &mut [u8],
+    input: Input,
+) -> Input {
     if t.len() < n {
         return misfit(input);
     }
@@ -239,7 +271,7 @@ pub(crate) fn integers(t: &mut [i64], n: usize, buf: &mut [u8], input: Input) ->
         if !at.good {
             return at;
         }
-        let got = integer(buf, at);
+        let got = integer(rt, from, buf, at);
         keep(t, i, got.word);
         at = got.input;
         i += 1;
@@ -252,10 +284,15 @@ fn length(k: u64) -> usize {
     if k > 100000 { 100000 } else { k as usize }
 }
 
-pub(crate) fn lengths(buf: &mut [u8], input: Input) -> Sizes {
+pub(crate) fn lengths<R: Read>(
+    rt: &impl Eprint,
+    from: &mut R,
+    buf: &mut [u8],
+    input: Input,
+) -> Sizes {
     let mut long = [0u64; 5];
-    let first = natural(buf, input);
-    let rest = naturals(&mut long, 5, buf, first.input);
+    let first = natural(rt, from, buf, input);
+    let rest = naturals(rt, from, &mut long, 5, buf, first.input);
     Sizes {
         nodes: length(first.word),
         links: length(long[0]),

@@ -1,6 +1,6 @@
 // An answer and every word of the tables, a line each.
 use engine::command::Answer;
-use libc::STDOUT_FILENO;
+use std::io;
 use stream::{Sink, send, spill};
 use text::answers::{push, put_all, put_count, put_integer, put_line, put_natural};
 
@@ -18,8 +18,8 @@ fn parted(out: &mut [u8], at: usize, first: bool) -> usize {
     if first { at } else { push(out, at, 32) }
 }
 
-fn natural(out: &mut [u8], sink: Sink, first: bool, n: u64) -> Sink {
-    let from = spill(STDOUT_FILENO, out, sink);
+fn natural(rt: &(impl Print + Eprint), out: &mut [u8], sink: Sink, first: bool, n: u64) -> Sink {
+    let from = spill(rt, &mut io::writer(rt), out, sink);
     let at = parted(out, from.at, first);
     Sink {
         at: put_natural(out, at, n),
@@ -27,8 +27,8 @@ fn natural(out: &mut [u8], sink: Sink, first: bool, n: u64) -> Sink {
     }
 }
 
-fn integer(out: &mut [u8], sink: Sink, first: bool, v: i64) -> Sink {
-    let from = spill(STDOUT_FILENO, out, sink);
+fn integer(rt: &(impl Print + Eprint), out: &mut [u8], sink: Sink, first: bool, v: i64) -> Sink {
+    let from = spill(rt, &mut io::writer(rt), out, sink);
     let at = parted(out, from.at, first);
     Sink {
         at: put_integer(out, at, v),
@@ -36,8 +36,8 @@ fn integer(out: &mut [u8], sink: Sink, first: bool, v: i64) -> Sink {
     }
 }
 
-fn key(out: &mut [u8], sink: Sink, name: &[u8]) -> Sink {
-    let from = spill(STDOUT_FILENO, out, sink);
+fn key(rt: &(impl Print + Eprint), out: &mut [u8], sink: Sink, name: &[u8]) -> Sink {
+    let from = spill(rt, &mut io::writer(rt), out, sink);
     Sink {
         at: put_all(out, from.at, name),
         ok: from.ok,
@@ -51,41 +51,61 @@ fn newline(out: &mut [u8], sink: Sink) -> Sink {
     }
 }
 
-fn naturals(out: &mut [u8], sink: Sink, name: &[u8], t: &[u64]) -> Sink {
-    let mut to = key(out, sink, name);
+fn naturals(
+    rt: &(impl Print + Eprint),
+    out: &mut [u8],
+    sink: Sink,
+    name: &[u8],
+    t: &[u64],
+) -> Sink {
+    let mut to = key(rt, out, sink, name);
     let mut i = 0;
     while i < t.len() {
-        to = natural(out, to, i == 0, t[i]);
+        to = natural(rt, out, to, i == 0, t[i]);
         i += 1;
     }
     newline(out, to)
 }
 
-fn integers(out: &mut [u8], sink: Sink, name: &[u8], t: &[i64]) -> Sink {
-    let mut to = key(out, sink, name);
+fn integers(
+    rt: &(impl Print + Eprint),
+    out: &mut [u8],
+    sink: Sink,
+    name: &[u8],
+    t: &[i64],
+) -> Sink {
+    let mut to = key(rt, out, sink, name);
     let mut i = 0;
     while i < t.len() {
-        to = integer(out, to, i == 0, t[i]);
+        to = integer(rt, out, to, i == 0, t[i]);
         i += 1;
     }
     newline(out, to)
 }
 
-fn sent(out: &[u8], sink: Sink) -> bool {
-    if send(STDOUT_FILENO, out, sink.at) {
+fn sent(rt: &(impl Print + Eprint), out: &[u8], sink: Sink) -> bool {
+    if send(rt, &mut io::writer(rt), out, sink.at) {
         return sink.ok;
     }
     false
 }
 
-fn signed(values: &[i64], cells: &[i64], log: &[i64], out: &mut [u8], sink: Sink) -> bool {
-    let a = integers(out, sink, b"values=", values);
-    let b = integers(out, a, b"cells=", cells);
-    let c = integers(out, b, b"log=", log);
-    sent(out, c)
+fn signed(
+    rt: &(impl Print + Eprint),
+    values: &[i64],
+    cells: &[i64],
+    log: &[i64],
+    out: &mut [u8],
+    sink: Sink,
+) -> bool {
+    let a = integers(rt, out, sink, b"values=", values);
+    let b = integers(rt, out, a, b"cells=", cells);
+    let c = integers(rt, out, b, b"log=", log);
+    sent(rt, out, c)
 }
 
 fn whole(
+    rt: &(impl Print + Eprint),
     nodes: &[u64],
     links: &[u64],
     values: &[i64],
@@ -95,12 +115,13 @@ fn whole(
     answer: Answer,
 ) -> bool {
     let first = head(out, answer);
-    let a = naturals(out, first, b"nodes=", nodes);
-    let b = naturals(out, a, b"links=", links);
-    signed(values, cells, log, out, b)
+    let a = naturals(rt, out, first, b"nodes=", nodes);
+    let b = naturals(rt, out, a, b"links=", links);
+    signed(rt, values, cells, log, out, b)
 }
 
 pub(crate) fn show(
+    rt: &(impl Print + Eprint),
     nodes: &[u64],
     links: &[u64],
     values: &[i64],
@@ -109,5 +130,5 @@ pub(crate) fn show(
     answer: Answer,
 ) -> bool {
     let mut out = [0u8; 8192];
-    whole(nodes, links, values, cells, log, &mut out, answer)
+    whole(rt, nodes, links, values, cells, log, &mut out, answer)
 }

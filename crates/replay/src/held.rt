@@ -1,13 +1,14 @@
 // Where a run stands in its two files, and what it has found.
 use packs::Place;
 use script::packed::Step;
+use std::io::Read;
 use stream::{Window, after, fill, next};
 
-// The descriptors of the scripts and of the stored answers.
-#[derive(Clone, Copy)]
-pub(crate) struct Files {
-    pub scripts: i32,
-    pub answers: i32,
+// The files of the scripts and of the stored answers.
+#[derive(Drop)]
+pub(crate) struct Files<F> {
+    pub scripts: F,
+    pub answers: F,
 }
 
 // The windows on the scripts (at, end, over) and on the stored answers, whether more of the scripts is wanted, whether the run goes on, whether
@@ -52,13 +53,14 @@ fn stopped(state: State) -> State {
 }
 
 // One more read, where it is wanted.
-fn read_on(buf: &mut [u8], files: Files, state: State) -> State {
+fn read_on<F: Read>(rt: &impl Eprint, buf: &mut [u8], files: &mut Files<F>, state: State) -> State {
     if !state.wanting {
         return state;
     }
     let mut next = state;
     let more = fill(
-        files.scripts,
+        rt,
+        &mut files.scripts,
         buf,
         Window {
             at: state.at,
@@ -91,10 +93,17 @@ fn moved(state: State, used: usize, place: Place) -> State {
 }
 
 // One stored byte against b, or 256 for the end.
-fn against(kept: &mut [u8], files: Files, state: State, b: u64) -> State {
+fn against<F: Read>(
+    rt: &impl Eprint,
+    kept: &mut [u8],
+    files: &mut Files<F>,
+    state: State,
+    b: u64,
+) -> State {
     let mut after = state;
     let got = next(
-        files.answers,
+        rt,
+        &mut files.answers,
         kept,
         Window {
             at: state.kept_at,
@@ -118,7 +127,14 @@ fn wide(b: u8) -> u64 {
 }
 
 // The next stored bytes against the first n of out.
-fn compared(out: &[u8], n: usize, kept: &mut [u8], files: Files, state: State) -> State {
+fn compared<F: Read>(
+    rt: &impl Eprint,
+    out: &[u8],
+    n: usize,
+    kept: &mut [u8],
+    files: &mut Files<F>,
+    state: State,
+) -> State {
     let mut now = state;
     let mut i = 0;
     while i < n {
@@ -128,7 +144,7 @@ fn compared(out: &[u8], n: usize, kept: &mut [u8], files: Files, state: State) -
         if !now.same {
             return now;
         }
-        now = against(kept, files, now, wide(out[i]));
+        now = against(rt, kept, files, now, wide(out[i]));
         i += 1;
     }
     now
@@ -157,13 +173,20 @@ fn wants(state: State) -> State {
 }
 
 // Holds what a step says against what is stored.
-fn judged(out: &[u8], kept: &mut [u8], files: Files, what: Step, state: State) -> State {
+fn judged<F: Read>(
+    rt: &impl Eprint,
+    out: &[u8],
+    kept: &mut [u8],
+    files: &mut Files<F>,
+    what: Step,
+    state: State,
+) -> State {
     match what {
-        Step::Answered(_, bytes) => compared(out, bytes, kept, files, state),
-        Step::Ended(bytes) => compared(out, bytes, kept, files, state),
-        Step::Next(_) => compared(b"%\n", 2, kept, files, state),
+        Step::Answered(_, bytes) => compared(rt, out, bytes, kept, files, state),
+        Step::Ended(bytes) => compared(rt, out, bytes, kept, files, state),
+        Step::Next(_) => compared(rt, b"%\n", 2, kept, files, state),
         // No stored answer may be left.
-        Step::Stop => against(kept, files, state, 256),
+        Step::Stop => against(rt, kept, files, state, 256),
         Step::Read => state,
         Step::Within(_) => state,
         Step::Past(_) => state,
@@ -193,14 +216,15 @@ fn stood(what: Step, state: State) -> State {
 }
 
 // What a step says, held against what is stored, and one more read where it is wanted.
-pub(crate) fn told(
+pub(crate) fn told<F: Read>(
+    rt: &impl Eprint,
     out: &[u8],
     buf: &mut [u8],
     kept: &mut [u8],
-    files: Files,
+    files: &mut Files<F>,
     what: Step,
     state: State,
 ) -> State {
-    let held = judged(out, kept, files, what, state);
-    read_on(buf, files, stood(what, held))
+    let held = judged(rt, out, kept, files, what, state);
+    read_on(rt, buf, files, stood(what, held))
 }

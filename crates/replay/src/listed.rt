@@ -1,7 +1,9 @@
 // The packs that the arguments list, and what is printed of each.
 use crate::held::State;
-use libc::STDOUT_FILENO;
-use stream::{number_argument, send};
+use std::env::Env;
+use std::rt::Files;
+use std::{fs, io, str};
+use stream::{argument, fail, number_argument, send};
 use text::answers::{put_all, put_natural};
 
 // Lengths in words.
@@ -65,35 +67,46 @@ pub(crate) fn fits(room: Room) -> bool {
 }
 
 // The capacities behind a pack's name at argument i.
-pub(crate) fn room_of(i: usize) -> Room {
+pub(crate) fn room_of(rt: &impl Env, i: usize) -> Room {
     if i > 1000000 {
         return no_room();
     }
     sizes(
-        number_argument(i + 1),
-        number_argument(i + 2),
-        number_argument(i + 3),
-        number_argument(i + 4),
+        number_argument(rt, i + 1),
+        number_argument(rt, i + 2),
+        number_argument(rt, i + 3),
+        number_argument(rt, i + 4),
     )
 }
 
-// Opens the file of a pack, named by argument i and an ending; -1 where there is none.
-fn open_by(name: &mut [u8], i: usize, ending: &[u8]) -> i32 {
-    let n = os::arg(i, name);
+// Opens the file of a pack, named by argument i and an ending.
+fn open_by<R: Files + Env>(
+    rt: &R,
+    name: &mut [u8],
+    i: usize,
+    ending: &[u8],
+) -> io::Result<R::File> {
+    let n = argument(rt, i, name);
     let end = put_all(name, n, ending);
     if name.len() < end {
-        return -1;
+        return Err(io::Error::from(io::ErrorKind::InvalidInput));
     }
-    os::open_read(&name[0..end])
+    match str::from_utf8(&name[0..end]) {
+        Ok(path) => fs::open(rt, path),
+        Err(_) => Err(io::Error::from(io::ErrorKind::InvalidInput)),
+    }
 }
 
-pub(crate) fn open(i: usize, ending: &[u8]) -> i32 {
+// Where there is no such file, that is told on standard error.
+pub(crate) fn open<R: Files + Env + Eprint>(rt: &R, i: usize, ending: &[u8]) -> Option<R::File> {
     let mut name = [0u8; 256];
-    let fd = open_by(&mut name, i, ending);
-    if fd < 0 {
-        os::fail(b"open");
+    match open_by(rt, &mut name, i, ending) {
+        Ok(file) => Some(file),
+        Err(e) => {
+            fail(rt, "open", e);
+            None
+        }
     }
-    fd
 }
 
 // A line: what was compared, and whether it was the same.
@@ -112,13 +125,13 @@ fn ending(out: &mut [u8], at: usize, same: bool) -> usize {
     put_all(out, at, b" answers, and there it DIFFERS\n")
 }
 
-fn told(out: &mut [u8], i: usize, state: State) {
-    let n = os::arg(i, out);
+fn told(rt: &(impl Env + Print + Eprint), out: &mut [u8], i: usize, state: State) {
+    let n = argument(rt, i, out);
     let end = line(out, n, state);
-    send(STDOUT_FILENO, out, end);
+    send(rt, &mut io::writer(rt), out, end);
 }
 
-pub(crate) fn tell(i: usize, state: State) {
+pub(crate) fn tell(rt: &(impl Env + Print + Eprint), i: usize, state: State) {
     let mut out = [0u8; 512];
-    told(&mut out, i, state);
+    told(rt, &mut out, i, state);
 }

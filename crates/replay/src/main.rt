@@ -8,14 +8,17 @@ mod listed;
 ghost use Rattle.std.specs.Prelude.{◌<◌};
 
 use held::{Files, State, start, told};
-use libc::STDERR_FILENO;
 use listed::{Room, fits, open, room_of, tell};
 use operations::emptying::empty;
 use script::packed::play;
-use stream::least;
+use std::env::Env;
+use std::io::Read;
+use std::rt;
+use stream::{argument_count, least};
 
 // One pair, one line after a script, or one more read.
-fn step(
+fn step<F: Read>(
+    rt: &impl Eprint,
     nodes: &mut [u64],
     links: &mut [u64],
     values: &mut [i64],
@@ -25,7 +28,7 @@ fn step(
     out: &mut [u8],
     buf: &mut [u8],
     kept: &mut [u8],
-    files: Files,
+    files: &mut Files<F>,
     state: State,
 ) -> State {
     let place = state.place;
@@ -43,17 +46,18 @@ fn step(
         state.over,
         place,
     );
-    told(out, buf, kept, files, what, state)
+    told(rt, out, buf, kept, files, what, state)
 }
 
 // Nothing says that a file ends, so the turns are counted down.
-fn session(
+fn session<F: Read>(
+    rt: &impl Eprint,
     nodes: &mut [u64],
     links: &mut [u64],
     values: &mut [i64],
     cells: &mut [i64],
     log: &mut [i64],
-    files: Files,
+    files: &mut Files<F>,
 ) -> State {
     let mut words = [0i64; 2048];
     let mut out = [0u8; 32768];
@@ -64,7 +68,7 @@ fn session(
     let mut turns = u64::MAX;
     while turns > 0 {
         state = step(
-            nodes, links, values, cells, log, &mut words, &mut out, &mut buf, &mut kept, files,
+            rt, nodes, links, values, cells, log, &mut words, &mut out, &mut buf, &mut kept, files,
             state,
         );
         turns = left(turns, state.on);
@@ -81,7 +85,7 @@ fn left(turns: u64, on: bool) -> u64
 }
 
 // Room for 256 nodes, 1,024 links, 2,048 cells and 256 log rows, as the program has, cut to a pack's lengths.
-fn run(chosen: Room, files: Files) -> State {
+fn run<F: Read>(rt: &impl Eprint, chosen: Room, files: &mut Files<F>) -> State {
     let n = least(chosen.node_words, 4112);
     let l = least(chosen.link_words, 8200);
     let v = least(chosen.value_words, 1024);
@@ -93,6 +97,7 @@ fn run(chosen: Room, files: Files) -> State {
     let mut cells = [0i64; 4096];
     let mut log = [0i64; 512];
     session(
+        rt,
         &mut nodes[0..n],
         &mut links[0..l],
         &mut values[0..v],
@@ -103,41 +108,36 @@ fn run(chosen: Room, files: Files) -> State {
 }
 
 // Of a pack that asks for more than there is room for, nothing is compared.
-fn found(chosen: Room, files: Files) -> State {
+fn found<F: Read>(rt: &impl Eprint, chosen: Room, files: &mut Files<F>) -> State {
     if fits(chosen) {
-        return run(chosen, files);
+        return run(rt, chosen, files);
     }
     start()
 }
 
-fn pack(i: usize) {
-    let files = Files {
-        scripts: open(i, b".in"),
-        answers: open(i, b".out"),
+fn pack<R: rt::Files + Env + Print + Eprint>(rt: &R, i: usize) {
+    let scripts = open(rt, i, b".in");
+    let answers = open(rt, i, b".out");
+    let Some(scripts) = scripts else {
+        return;
     };
-    if files.scripts < 0 {
+    let Some(answers) = answers else {
         return;
-    }
-    if files.answers < 0 {
-        return;
-    }
-    tell(i, found(room_of(i), files));
-    libc::close(files.scripts);
-    libc::close(files.answers);
+    };
+    let mut files = Files { scripts, answers };
+    let state = found(rt, room_of(rt, i), &mut files);
+    tell(rt, i, state);
 }
 
-fn main() {
-    let count = os::arg_count();
+fn main(rt: HostRuntime) {
+    let count = argument_count(&rt);
     let mut i = 1;
     while i < count {
         if count - i < 5 {
-            io::write_all(
-                STDERR_FILENO,
-                b"usage: replay NAME NODES LINKS CELLS ROWS ..\n",
-            );
+            let _ = rt.eprintln("usage: replay NAME NODES LINKS CELLS ROWS ..");
             return;
         }
-        pack(i);
+        pack(&rt, i);
         i += 5;
     }
 }

@@ -4,10 +4,11 @@
 ghost use Rattle.script.specs.Turns.{tables};
 ghost use Rattle.simmer.specs.Steps.{Stepped, lent};
 
-use libc::{STDIN_FILENO, STDOUT_FILENO};
 use operations::emptying::empty;
 use script::turn;
 use script::turns::Turn;
+use std::io;
+use std::io::Read;
 use stream::{Window, after, fill, send};
 
 // Where the window stands, and whether the run goes on.
@@ -20,7 +21,9 @@ struct State {
 }
 
 // One pair, or one more read.
-fn step(
+fn step<R: Read>(
+    rt: &(impl Print + Eprint),
+    from: &mut R,
     nodes: &mut [u64],
     links: &mut [u64],
     values: &mut [i64],
@@ -48,6 +51,7 @@ fn step(
     if end < at {
         return stop;
     }
+    let mut to = io::writer(rt);
     let what = turn(
         nodes,
         links,
@@ -62,7 +66,8 @@ fn step(
     match what {
         Turn::More => {
             let more = fill(
-                STDIN_FILENO,
+                rt,
+                from,
                 buf,
                 Window {
                     at: at,
@@ -81,17 +86,18 @@ fn step(
             at: after(at, used, end),
             end: end,
             over: over,
-            on: send(STDOUT_FILENO, out, bytes),
+            on: send(rt, &mut to, out, bytes),
         },
         Turn::Ended(bytes) => {
-            send(STDOUT_FILENO, out, bytes);
+            send(rt, &mut to, out, bytes);
             stop
         }
     }
 }
 
 // 256 nodes, 1,024 links, 2,048 cells and 256 log rows; nothing says that the input ends, so the turns are counted down.
-fn main() {
+fn main(rt: HostRuntime) {
+    let mut from = rt.reader();
     let mut nodes = [0u64; 4112];
     let mut links = [0u64; 8200];
     let mut values = [0i64; 1024];
@@ -110,6 +116,8 @@ fn main() {
     let mut turns = u64::MAX;
     while turns > 0 {
         state = step(
+            &rt,
+            &mut from,
             &mut nodes,
             &mut links,
             &mut values,

@@ -8,11 +8,12 @@ mod view;
 
 ghost use Rattle.std.specs.Prelude.{◌<◌};
 
-use libc::{STDERR_FILENO, STDIN_FILENO, STDOUT_FILENO};
 use operations::emptying::empty;
 use options::{Options, from_arguments};
 use packs::Place;
 use script::packed::{Step, play};
+use std::io;
+use std::io::Read;
 use stream::{Window, after, fill, least, send};
 use view::dump;
 
@@ -26,10 +27,11 @@ struct State {
     on: bool,
 }
 
-fn read_more(buf: &mut [u8], state: State) -> State {
+fn read_more<R: Read>(rt: &impl Eprint, from: &mut R, buf: &mut [u8], state: State) -> State {
     let place = state.place;
     let more = fill(
-        STDIN_FILENO,
+        rt,
+        from,
         buf,
         Window {
             at: state.at,
@@ -57,11 +59,12 @@ fn moved(state: State, used: usize, place: Place, on: bool) -> State {
 }
 
 // Writes what a step has to say.
-fn written(out: &[u8], what: Step) -> bool {
+fn written(rt: &(impl Print + Eprint), out: &[u8], what: Step) -> bool {
+    let mut to = io::writer(rt);
     match what {
-        Step::Answered(_, bytes) => send(STDOUT_FILENO, out, bytes),
-        Step::Ended(bytes) => send(STDOUT_FILENO, out, bytes),
-        Step::Next(_) => send(STDOUT_FILENO, b"%\n", 2),
+        Step::Answered(_, bytes) => send(rt, &mut to, out, bytes),
+        Step::Ended(bytes) => send(rt, &mut to, out, bytes),
+        Step::Next(_) => send(rt, &mut to, b"%\n", 2),
         Step::Read => true,
         Step::Within(_) => true,
         Step::Past(_) => true,
@@ -84,6 +87,7 @@ fn shows(tables: bool, what: Step) -> bool {
 
 // Writes what a step has to say and the tables after a command; where that fails the run stops.
 fn told(
+    rt: &(impl Print + Eprint),
     nodes: &[u64],
     links: &[u64],
     values: &[i64],
@@ -91,19 +95,26 @@ fn told(
     tables: bool,
     what: Step,
 ) -> bool {
-    if !written(out, what) {
+    if !written(rt, out, what) {
         return false;
     }
     if shows(tables, what) {
-        return dump(nodes, links, values);
+        return dump(rt, nodes, links, values);
     }
     true
 }
 
 // Where the run stands after a step, perhaps after one more read.
-fn stood(buf: &mut [u8], what: Step, state: State, on: bool) -> State {
+fn stood<R: Read>(
+    rt: &impl Eprint,
+    from: &mut R,
+    buf: &mut [u8],
+    what: Step,
+    state: State,
+    on: bool,
+) -> State {
     match what {
-        Step::Read => read_more(buf, state),
+        Step::Read => read_more(rt, from, buf, state),
         Step::Answered(used, _) => moved(state, used, Place::Open, on),
         Step::Ended(_) => moved(state, 0, Place::InLine, on),
         Step::Next(used) => moved(state, used, Place::Open, on),
@@ -114,7 +125,9 @@ fn stood(buf: &mut [u8], what: Step, state: State, on: bool) -> State {
 }
 
 // One pair, one line after a script, or one more read.
-fn step(
+fn step<R: Read>(
+    rt: &(impl Print + Eprint),
+    from: &mut R,
     nodes: &mut [u64],
     links: &mut [u64],
     values: &mut [i64],
@@ -141,12 +154,13 @@ fn step(
         state.over,
         place,
     );
-    let on = told(nodes, links, values, out, tables, what);
-    stood(buf, what, state, on)
+    let on = told(rt, nodes, links, values, out, tables, what);
+    stood(rt, from, buf, what, state, on)
 }
 
 // Nothing says that the input ends, so the turns are counted down.
 fn session(
+    rt: &(impl Input + Print + Eprint),
     nodes: &mut [u64],
     links: &mut [u64],
     values: &mut [i64],
@@ -157,6 +171,7 @@ fn session(
     let mut words = [0i64; 2048];
     let mut out = [0u8; 32768];
     let mut buf = [0u8; 16384];
+    let mut from = rt.reader();
     empty(nodes, links, values, cells);
     let mut state = State {
         at: 0,
@@ -168,7 +183,8 @@ fn session(
     let mut turns = u64::MAX;
     while turns > 0 {
         state = step(
-            nodes, links, values, cells, log, &mut words, &mut out, &mut buf, tables, state,
+            rt, &mut from, nodes, links, values, cells, log, &mut words, &mut out, &mut buf,
+            tables, state,
         );
         turns = left(turns, state.on);
     }
@@ -183,7 +199,7 @@ fn left(turns: u64, on: bool) -> u64
 }
 
 // Room for 1,024 nodes, 8,192 links, 8,192 cells and 1,024 log rows, cut to the chosen lengths.
-fn run(chosen: Options) {
+fn run(rt: &(impl Input + Print + Eprint), chosen: Options) {
     let n = least(chosen.node_words, 16400);
     let l = least(chosen.link_words, 65544);
     let v = least(chosen.value_words, 4096);
@@ -195,6 +211,7 @@ fn run(chosen: Options) {
     let mut cells = [0i64; 16384];
     let mut log = [0i64; 2048];
     session(
+        rt,
         &mut nodes[0..n],
         &mut links[0..l],
         &mut values[0..v],
@@ -204,14 +221,13 @@ fn run(chosen: Options) {
     );
 }
 
-fn main() {
-    let chosen = from_arguments();
+fn main(rt: HostRuntime) {
+    let chosen = from_arguments(&rt);
     if chosen.good {
-        run(chosen);
+        run(&rt, chosen);
         return;
     }
-    io::write_all(
-        STDERR_FILENO,
-        b"usage: trace [--nodes N] [--links N] [--cells N] [--rows N] [--many] [--plain]\n",
+    let _ = rt.eprintln(
+        "usage: trace [--nodes N] [--links N] [--cells N] [--rows N] [--many] [--plain]",
     );
 }

@@ -1,7 +1,8 @@
 // What the arguments choose.
 ghost use Rattle.std.specs.Prelude.{◌<◌};
 
-use stream::number_argument;
+use std::env::Env;
+use stream::{argument_count, number_argument};
 
 // Lengths in words, whether tables are shown, and whether the arguments could be read.
 #[derive(Clone, Copy)]
@@ -58,13 +59,12 @@ fn flag(name: &[u8], n: usize) -> u64 {
     0
 }
 
-fn flag_at(i: usize) -> u64 {
+fn flag_at(rt: &impl Env, i: usize) -> u64 {
     let mut name = [0u8; 16];
-    let n = os::arg(i, &mut name);
-    if os::errno() != 0 {
-        return 0;
+    match rt.arg(i, &mut name) {
+        Ok(n) => flag(&name, n),
+        Err(_) => 0,
     }
-    flag(&name, n)
 }
 
 // Document 01's bounds; rows may be 0.
@@ -128,16 +128,16 @@ fn takes_number(what: u64) -> bool {
     if what == 0 { false } else { what < 5 }
 }
 
-fn choice(o: Options, what: u64, i: usize) -> Options {
+fn choice(rt: &impl Env, o: Options, what: u64, i: usize) -> Options {
     if takes_number(what) {
-        return with_number(o, what, after_flag(i));
+        return with_number(o, what, after_flag(rt, i));
     }
     marked(o, what)
 }
 
-fn after_flag(i: usize) -> u64 {
+fn after_flag(rt: &impl Env, i: usize) -> u64 {
     if i < 1000 {
-        return number_argument(i + 1);
+        return number_argument(rt, i + 1);
     }
     0
 }
@@ -156,7 +156,7 @@ fn behind(what: u64, i: usize, count: usize) -> usize
 }
 
 // The program's capacities where none are chosen.
-pub(crate) fn from_arguments() -> Options {
+pub(crate) fn from_arguments(rt: &impl Env) -> Options {
     let mut o = Options {
         node_words: 4112,
         link_words: 8200,
@@ -166,11 +166,11 @@ pub(crate) fn from_arguments() -> Options {
         tables: true,
         good: true,
     };
-    let count = os::arg_count();
+    let count = argument_count(rt);
     let mut i = 1;
     while i < count {
-        let what = flag_at(i);
-        o = choice(o, what, i);
+        let what = flag_at(rt, i);
+        o = choice(rt, o, what, i);
         i = behind(what, i, count);
     }
     o

@@ -1,10 +1,10 @@
 // The tables as text, as oracle/README.md sets it out.
-use libc::STDOUT_FILENO;
 use primitive::rows::{
     COMPUTED, CYCLE, DEP, DEPS, DEPTH, FLAGS, KIND, LINK, NEXT_DEP, NEXT_SUB, NODE, SIGNAL, SUB,
     SUBS, VERSION,
 };
 use primitive::words;
+use std::io;
 use stream::{Sink, send, spill};
 use text::answers::{push, put_all, put_integer, put_natural};
 
@@ -20,7 +20,15 @@ fn signed(out: &mut [u8], at: usize, key: &[u8], v: i64) -> usize {
 }
 
 // The nodes at the other ends of a list of links, and the links' versions.
-fn list(links: &[u64], out: &mut [u8], sink: Sink, head: u64, next: u64, other: u64) -> Sink {
+fn list(
+    rt: &(impl Print + Eprint),
+    links: &[u64],
+    out: &mut [u8],
+    sink: Sink,
+    head: u64,
+    next: u64,
+    other: u64,
+) -> Sink {
     let mut word = head;
     let mut left = links.len();
     let mut to = sink;
@@ -29,15 +37,23 @@ fn list(links: &[u64], out: &mut [u8], sink: Sink, head: u64, next: u64, other: 
             return to;
         }
         let slot = word - 1;
-        to = item(links, out, to, slot, other, word == head);
+        to = item(rt, links, out, to, slot, other, word == head);
         word = words::get(links, LINK, slot, next);
         left -= 1;
     }
     to
 }
 
-fn item(links: &[u64], out: &mut [u8], sink: Sink, slot: u64, other: u64, first: bool) -> Sink {
-    let from = spill(STDOUT_FILENO, out, sink);
+fn item(
+    rt: &(impl Print + Eprint),
+    links: &[u64],
+    out: &mut [u8],
+    sink: Sink,
+    slot: u64,
+    other: u64,
+    first: bool,
+) -> Sink {
+    let from = spill(rt, &mut io::writer(rt), out, sink);
     let at = comma(out, from.at, first);
     let to = put_natural(out, at, words::get(links, LINK, slot, other));
     Sink {
@@ -56,19 +72,19 @@ fn head(nodes: &[u64], links: &[u64], out: &mut [u8]) -> usize {
     put_all(out, b, b"\nqueue=")
 }
 
-fn queued(nodes: &[u64], out: &mut [u8], sink: Sink) -> Sink {
+fn queued(rt: &(impl Print + Eprint), nodes: &[u64], out: &mut [u8], sink: Sink) -> Sink {
     let count = queue::length(nodes);
     let mut i: u64 = 0;
     let mut to = sink;
     while i < count {
-        to = entry(nodes, out, to, i);
+        to = entry(rt, nodes, out, to, i);
         i += 1;
     }
     to
 }
 
-fn entry(nodes: &[u64], out: &mut [u8], sink: Sink, i: u64) -> Sink {
-    let from = spill(STDOUT_FILENO, out, sink);
+fn entry(rt: &(impl Print + Eprint), nodes: &[u64], out: &mut [u8], sink: Sink, i: u64) -> Sink {
+    let from = spill(rt, &mut io::writer(rt), out, sink);
     let at = comma(out, from.at, i == 0);
     Sink {
         at: put_natural(out, at, queue::entry(nodes, i)),
@@ -108,6 +124,7 @@ fn start(nodes: &[u64], node_values: &[i64], out: &mut [u8], at: usize, n: u64) 
 }
 
 fn depended(
+    rt: &(impl Print + Eprint),
     nodes: &[u64],
     links: &[u64],
     node_values: &[i64],
@@ -115,9 +132,10 @@ fn depended(
     sink: Sink,
     n: u64,
 ) -> Sink {
-    let from = spill(STDOUT_FILENO, out, sink);
+    let from = spill(rt, &mut io::writer(rt), out, sink);
     let a = start(nodes, node_values, out, from.at, n);
     list(
+        rt,
         links,
         out,
         Sink { at: a, ok: from.ok },
@@ -128,6 +146,7 @@ fn depended(
 }
 
 fn node(
+    rt: &(impl Print + Eprint),
     nodes: &[u64],
     links: &[u64],
     node_values: &[i64],
@@ -135,9 +154,10 @@ fn node(
     sink: Sink,
     n: u64,
 ) -> Sink {
-    let deps = depended(nodes, links, node_values, out, sink, n);
+    let deps = depended(rt, nodes, links, node_values, out, sink, n);
     let b = put_all(out, deps.at, b" subs=");
     list(
+        rt,
         links,
         out,
         Sink { at: b, ok: deps.ok },
@@ -147,33 +167,51 @@ fn node(
     )
 }
 
-fn finish(out: &mut [u8], sink: Sink) -> bool {
+fn finish(rt: &(impl Print + Eprint), out: &mut [u8], sink: Sink) -> bool {
     let end = push(out, sink.at, 10);
-    if send(STDOUT_FILENO, out, end) {
+    if send(rt, &mut io::writer(rt), out, end) {
         return sink.ok;
     }
     false
 }
 
-fn all(nodes: &[u64], links: &[u64], node_values: &[i64], out: &mut [u8], sink: Sink) -> Sink {
+fn all(
+    rt: &(impl Print + Eprint),
+    nodes: &[u64],
+    links: &[u64],
+    node_values: &[i64],
+    out: &mut [u8],
+    sink: Sink,
+) -> Sink {
     let count = counts::room::counted(nodes);
     let mut to = sink;
     let mut n: u64 = 0;
     while n < count {
-        to = node(nodes, links, node_values, out, to, n);
+        to = node(rt, nodes, links, node_values, out, to, n);
         n += 1;
     }
     to
 }
 
-fn whole(nodes: &[u64], links: &[u64], node_values: &[i64], out: &mut [u8]) -> bool {
+fn whole(
+    rt: &(impl Print + Eprint),
+    nodes: &[u64],
+    links: &[u64],
+    node_values: &[i64],
+    out: &mut [u8],
+) -> bool {
     let at = head(nodes, links, out);
-    let queue = queued(nodes, out, Sink { at: at, ok: true });
-    let nodes_out = all(nodes, links, node_values, out, queue);
-    finish(out, nodes_out)
+    let queue = queued(rt, nodes, out, Sink { at: at, ok: true });
+    let nodes_out = all(rt, nodes, links, node_values, out, queue);
+    finish(rt, out, nodes_out)
 }
 
-pub(crate) fn dump(nodes: &[u64], links: &[u64], node_values: &[i64]) -> bool {
+pub(crate) fn dump(
+    rt: &(impl Print + Eprint),
+    nodes: &[u64],
+    links: &[u64],
+    node_values: &[i64],
+) -> bool {
     let mut out = [0u8; 8192];
-    whole(nodes, links, node_values, &mut out)
+    whole(rt, nodes, links, node_values, &mut out)
 }
