@@ -26,5 +26,4 @@ returns c = rw (
   c.if-not-is_live.false,
   ← c.get.ensures,
   eq-eqb _ _ c.if-get-n.false,
-  ← c.get-2.ensures,
-)
+) (cc)
