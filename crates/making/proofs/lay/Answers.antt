@@ -1,7 +1,6 @@
 -- `making::lay` meets its contract. Assumes nothing.
 use borrow.Author.Rules.{rules}
 use mathlib.Core.Path.{◌≡◌, refl, sym, ◌∙◌}
-use Prim.Native.Nat.{◌-◌}
 use lib.IntN.{pos}
 use lib.ListN.{get_or}
 use mir.Syntax.{w64}

@@ -20,7 +20,7 @@ loop-n-preserved c =
     let e = c.loop-n.invariant.0 in
     let r = c.is_live.ensures in (
       elim c.if-is_live.branch [
-        then-is_live w ↦ omega (arith, w.count-is, e, below_more l n r w.if-is_live.true)
+        | then-is_live w ↦ omega (arith, w.count-is, e, below_more l n r w.if-is_live.true)
         | else-is_live w ↦ omega (arith, w.count-is, e, below_more l n r w.if-is_live.false)
       ],
       omega arith,

@@ -1,6 +1,6 @@
 -- The ring of unlink, unwatched, dispose and purge_deps meets its contracts. The measure is the number of live links, and then the member's rank: a call falls
 -- in rank, or comes after a slot was freed. Assumes nothing.
-use Prim.Native.Nat.{ℕ, ◌≤◌}
+use Prim.Native.Nat.{ℕ}
 use mathlib.Core.Path.{◌≡◌, refl, sym, ap, ◌∙◌}
 use mathlib.Core.Bool.{true, false}
 use mathlib.Core.List.{List}

@@ -1,6 +1,5 @@
 -- `operations::emptying::clear` meets its contract. Assumes nothing.
 use mathlib.Core.Path.{refl, sym, ◌∙◌}
-use Prim.Native.Nat.{◌-◌}
 use native.Mathlib.Omega.{arith}
 use lib.ListN.{length-set}
 use Rattle.operating.proofs.EmptyLaws.{zero_turn, zero_done}

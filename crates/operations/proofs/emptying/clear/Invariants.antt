@@ -1,6 +1,6 @@
 -- `operations::emptying::clear` meets its contract. Assumes nothing.
 use mathlib.Core.Path.{◌≡◌}
-use Prim.Native.Nat.{◌-◌, ◌≤◌}
+use Prim.Native.Nat.{◌≤◌}
 use lib.ListN.{length}
 use Rattle.operating.specs.Emptying.{zeroed}
 use Rattle.operations.proofs.emptying.clear.Given as goal

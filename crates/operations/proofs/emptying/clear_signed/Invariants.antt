@@ -1,6 +1,6 @@
 -- `operations::emptying::clear_signed` meets its contract. Assumes nothing.
 use mathlib.Core.Path.{◌≡◌}
-use Prim.Native.Nat.{◌-◌, ◌≤◌}
+use Prim.Native.Nat.{◌≤◌}
 use lib.IntN.{pos}
 use lib.ListN.{length}
 use Rattle.operating.specs.Emptying.{zeroed}

@@ -1,6 +1,5 @@
 -- `operations::emptying::free_all` meets its contract. Assumes nothing.
 use mathlib.Core.Path.{refl, sym, ◌∙◌}
-use Prim.Native.Nat.{◌-◌}
 use Rattle.operating.proofs.EmptyLaws.{free_turn, free_done}
 use Rattle.operations.proofs.emptying.free_all.Goals as goal
 

@@ -1,6 +1,5 @@
 -- `operations::emptying::free_all` meets its contract. Assumes nothing.
 use mathlib.Core.Path.{◌≡◌}
-use Prim.Native.Nat.{◌-◌}
 use lib.ListN.{length}
 use Rattle.operating.specs.Emptying.{freed}
 use Rattle.operations.proofs.emptying.free_all.Given as goal
