@@ -1,5 +1,5 @@
 -- Document 01, "Cases": the table of the twelve marked P, of `meaning`, asked of the lent tables.
-use Rattle.std.specs.Prelude.{◌≡◌, Bool, List, [], ◌∷◌, ℕ, eqb}
+use Rattle.std.specs.Prelude.{◌≡◌, List, [], ◌∷◌, ℕ, eqb}
 use Rattle.primitive.specs.Words.{DEP, SUB, link}
 use Rattle.linking.specs.Free.{is_live_slot, live}
 use Rattle.lists.specs.Sum.{count}

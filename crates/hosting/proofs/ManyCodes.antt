@@ -12,7 +12,7 @@ use Rattle.sequencing.specs.declared.steps.Why.TheVariants as why
 use Rattle.sequencing.specs.Series.{Ended, series_in}
 use Rattle.sequencing.proofs.Inside.{inside}
 use Rattle.hosting.specs.Calls.{reply_words, no_reply}
-use Rattle.hosting.specs.Many.{why_number, many_replied, calls_in}
+use Rattle.hosting.specs.Many.{why_number, calls_in}
 use Rattle.hosting.proofs.Codes.{word_is}
 use Rattle.hosting.proofs.ManyReplies.{many_reply, not_done, calls_done}
 

@@ -6,11 +6,9 @@ use lib.IntN.{ℤ}
 use lib.ListN.{length, set}
 use borrow.Author.Tests.{le-leb, lt-leb}
 use Rattle.operating.specs.Log.{number_word}
-use Rattle.sequencing.specs.declared.steps.Why.{Why}
-use Rattle.sequencing.specs.declared.steps.Why.TheVariants as why
 use Rattle.sequencing.specs.Series.{Ended, series_in}
 use Rattle.hosting.specs.Calls.{reply_words, no_reply}
-use Rattle.hosting.specs.Many.{called_many, why_number, many_replied, ended_in, calls_in}
+use Rattle.hosting.specs.Many.{called_many, many_replied, ended_in, calls_in}
 
 module _ (y : List ℤ) (why used done rows : ℕ) where
   pub without_reply : length y < reply_words → y ≡ many_replied y why used done rows

@@ -21,9 +21,9 @@ use Rattle.sequencing.specs.declared.steps.Step.{Step}
 use Rattle.sequencing.specs.declared.steps.Step.TheVariants.{Stopped, Done}
 use Rattle.sequencing.specs.Lists.{first_of}
 use Rattle.sequencing.specs.Steps.{answer_words, Stepped, stepped, step_by}
-use Rattle.sequencing.specs.Series.{Going, going, Ended, ended, step_of, further, series_from}
+use Rattle.sequencing.specs.Series.{Going, going, ended, step_of, further, series_from}
 use Rattle.sequencing.proofs.ListLaws.{none_left, words_inside}
-use Rattle.sequencing.proofs.StepLaws.{at_end, stopped_is, Was, done_is}
+use Rattle.sequencing.proofs.StepLaws.{at_end, stopped_is, done_is}
 
 -- ---- the test stays true, and stays false: what is not well formed is refused, and so unchanged
 module _ (n l : List ℕ) (v c g ws : List ℤ) where

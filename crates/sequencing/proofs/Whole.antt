@@ -1,6 +1,6 @@
 -- WHOLE: a series that says its list is over has used every word of it, so the number of commands that its definition counts down never cuts
 -- a list short. Assumes nothing.
-use mathlib.Core.Path.{◌≡◌, refl, sym, ap, ◌∙◌}
+use mathlib.Core.Path.{◌≡◌, refl, ap, ◌∙◌}
 use mathlib.Core.List.{List}
 use Prim.Native.Nat.{ℕ, zero, suc, ◌+◌, ◌*◌, ◌≤◌}
 use native.Mathlib.Omega.{arith}
@@ -8,7 +8,6 @@ use lib.IntN.{ℤ}
 use lib.ListN.{length, drop, length-drop}
 use Rattle.operating.specs.Log.{row_words}
 use Rattle.commanding.specs.Command.{command_in}
-use Rattle.sequencing.specs.declared.steps.Why.{Why}
 use Rattle.sequencing.specs.declared.steps.Why.TheVariants.{Over}
 use Rattle.sequencing.specs.declared.steps.Step.{Step}
 use Rattle.sequencing.specs.declared.steps.Step.TheVariants.{Stopped, Done}

@@ -4,7 +4,6 @@ use Rattle.operating.specs.Log.{row_words}
 use Rattle.commanding.specs.Command.{command_in}
 use Rattle.sequencing.specs.declared.steps.Why.{Why}
 use Rattle.sequencing.specs.declared.steps.Why.TheVariants.{Over}
-use Rattle.sequencing.specs.declared.steps.Step.{Step}
 use Rattle.sequencing.specs.declared.steps.Step.TheVariants.{Stopped, Done}
 use Rattle.sequencing.specs.Steps.{answer_words, Stepped, step_by}
 

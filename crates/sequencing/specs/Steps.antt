@@ -2,9 +2,7 @@
 use Rattle.std.specs.Prelude.{true, false, List, ℕ, ◌+◌, eqb, leb, ℤ, length, set}
 use Rattle.operating.specs.Log.{number_word}
 use Rattle.commanding.specs.Command.{Answered}
-use Rattle.sequencing.specs.declared.list.Next.{Next}
 use Rattle.sequencing.specs.declared.list.Next.TheVariants as next
-use Rattle.sequencing.specs.declared.steps.Why.{Why}
 use Rattle.sequencing.specs.declared.steps.Why.TheVariants as why
 use Rattle.sequencing.specs.declared.steps.Step.{Step}
 use Rattle.sequencing.specs.declared.steps.Step.TheVariants.{Stopped, Done}
