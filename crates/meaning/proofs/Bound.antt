@@ -1,21 +1,21 @@
 -- The read links of a live effect change only in its own run or its disposal. Assumes nothing.
 use mathlib.Core.Path.{◌≡◌, refl, sym, ap, ◌∙◌, subst}
-use mathlib.Core.Bool.{Bool, true, false}
-use mathlib.Core.List.{List, [], ◌∷◌, ◌++◌}
+use mathlib.Core.Bool.{true, false}
+use mathlib.Core.List.{List, [], ◌++◌}
 use mathlib.Core.Option.{Option, none, some}
 use Prim.Native.Nat.{ℕ, zero, suc, ◌<◌}
-use lib.IntN.{ℤ, pos, negsuc}
-use borrow.Author.Tests.{not-true, eqb-false}
+use lib.IntN.{ℤ, pos}
+use borrow.Author.Tests.{not-true}
 use Rattle.values.specs.declared.Value.{Value}
 use Rattle.values.specs.Values.{value, same}
-use Rattle.trees.specs.Trees.{constant, names}
-use Rattle.meaning.specs.State.{St, Kind, signal, computed, effect, scope, Row, readable, f0, f1, f17, nothing}
+use Rattle.trees.specs.Trees.{constant}
+use Rattle.meaning.specs.State.{St, signal, computed, effect, scope, Row, readable, f0, f1, f17, nothing}
 use Rattle.meaning.specs.Setters.{with_log, with_depth, set_fl, set_pend}
 use Rattle.meaning.specs.Links.{is_nil}
-use Rattle.meaning.specs.Marks.{is_effect, propagate}
-use Rattle.meaning.specs.Engine.{flush, flush_on, flush_at, store, new_signal, new_computed, new_scope, end_at}
+use Rattle.meaning.specs.Marks.{propagate}
+use Rattle.meaning.specs.Engine.{flush, flush_at, store, new_signal, new_computed, new_scope, end_at}
 use Rattle.meaning.specs.Words.{Command, make_signal, make_computed, make_effect, make_scope, set_to, add_to, read_of, dispose_of, batch_start, batch_end, command_of, node_of, owner_of, formula_of}
-use Rattle.meaning.specs.Refusals.{Sight, sight_of, asks_of, a_signal, an_owner, unknown, wrong_node, gone_node, bad_formula, too_high, no_room, wrong_depth, table, refusal}
+use Rattle.meaning.specs.Refusals.{Sight, sight_of, asks_of, a_signal, an_owner, unknown, wrong_node, gone_node, bad_formula, too_high, no_room, table, refusal}
 use Rattle.meaning.specs.WellFormed.{In, read_links, WellFormed}
 use Rattle.meaning.specs.Commands.{perform, perform_any, answer, command}
 use Rattle.meaning.proofs.Laws.{false≢true, none_some, branch, provided_so}
@@ -28,7 +28,6 @@ use Rattle.meaning.proofs.Dropping.{dispose_inside}
 use Rattle.meaning.proofs.Frames.{others}
 use Rattle.meaning.proofs.Running.{read_inside, read_reads, flush_inside}
 use Rattle.meaning.proofs.Walking.{i_propagated}
-use Rattle.meaning.proofs.Making.{Fits}
 use Rattle.meaning.proofs.Made.{made}
 use Rattle.meaning.proofs.Entered.{effect_reads}
 use Rattle.meaning.proofs.Accepted.{logless, taken, is_signal, signal_fits, computed_fits, effect_fits, scope_fits}

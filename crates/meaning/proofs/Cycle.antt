@@ -1,6 +1,6 @@
 -- The cycle: raised once for each evaluation that is not a first one, whatever the formulas. Assumes nothing.
-use mathlib.Core.Path.{◌≡◌, refl, sym, ap, ◌∙◌, subst}
-use mathlib.Core.Bool.{Bool, true, false}
+use mathlib.Core.Path.{◌≡◌, refl, ap, ◌∙◌}
+use mathlib.Core.Bool.{false}
 use mathlib.Core.List.{List, [], ◌∷◌}
 use mathlib.Core.Option.{Option, none, some}
 use Prim.Native.Nat.{ℕ, zero, suc, ◌+◌, ◌<◌, ◌%◌, ◌^◌}
@@ -10,14 +10,14 @@ use Rattle.values.specs.Values.{same}
 use Rattle.trees.specs.Trees.{Tree}
 use Rattle.meaning.specs.State.{St, Row, computed, effect, a_signal, f6, f17, nothing, raised}
 use Rattle.meaning.specs.Setters.{with_log, with_depth, set_fl, set_pend}
-use Rattle.meaning.specs.Links.{is_nil, head_of, last_of, goes_to, is_from, renew, insert, link, cut}
+use Rattle.meaning.specs.Links.{is_nil, renew, insert, link, cut}
 use Rattle.meaning.specs.Marks.{propagate}
 use Rattle.meaning.specs.Reads.{first_w, upd_computed, fresh}
 use Rattle.meaning.specs.Engine.{logged, rerun, flush_on, flush_at, store, node, owned, new_signal, new_computed, new_scope, new_effect, end_at}
 use Rattle.meaning.specs.Words.{Command, make_signal, make_computed, make_effect, make_scope, set_to, add_to, read_of, dispose_of, batch_start, batch_end, node_of, owner_of, formula_of}
 use Rattle.meaning.specs.Evaluations.{in_update, count_first, count_fresh, count_evaluation, count_rerun, count_flush_on, count_flush_at, count_store, count_new_effect, count_end, count_perform, reevaluations}
 use Rattle.meaning.specs.Commands.{perform}
-use Rattle.meaning.proofs.Laws.{branch, branches, provided_by}
+use Rattle.meaning.proofs.Laws.{branches, provided_by}
 use Rattle.meaning.proofs.Rings.{link_ways, Drops, Counts, dispose_ring, first_count, computed_count, fresh_count, settle_count, evaluate_count, rerun_count, flush_count}
 
 -- raised so many times

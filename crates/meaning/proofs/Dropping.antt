@@ -16,11 +16,11 @@ use Rattle.meaning.specs.Setters.{set_fl, set_gone}
 use Rattle.meaning.specs.Links.{is_nil, head_of, remove, each, cut, rewind, purge_w, last_link, dispose_w, unwatched_w, unlink_n, budget, purge, dispose}
 use Rattle.meaning.specs.Reserve.{reserve_of}
 use Rattle.meaning.specs.Owners.{Below}
-use Rattle.meaning.specs.WellFormed.{In, Once, Lists, read_links, ComputedFlags, never, clean, stale, maybe, dirty, EffectFlags, watching, pending}
+use Rattle.meaning.specs.WellFormed.{In, Once, Lists, read_links, ComputedFlags, never, clean, stale, maybe, dirty, EffectFlags}
 use Rattle.meaning.proofs.Laws.{clash, false≢true, either, none_some, branch, up_same, up_other, up_by, in_right}
 use Rattle.meaning.proofs.Members.{remove_in, in_remove, remove_absent, remove_head, remove_once, remove_append, none_nil, nil_none, is_nil-true, is_nil-false, append_is_nil, once_right, once_apart, most_below, total-least, reads_remove}
 use Rattle.meaning.proofs.Still.{Given}
-use Rattle.meaning.proofs.Binding.{SameLists, reads_of, SameReads, reads_then, reads_lists}
+use Rattle.meaning.proofs.Binding.{SameLists, SameReads, reads_then, reads_lists}
 use Rattle.meaning.proofs.Steps.{falls_by}
 use Rattle.meaning.proofs.Inside.{Set, nobody, also, only, Static, Goes, AtRest, Rests, Slots, reserve_least, Inside, widen, let_out, at_same, own_still, read_moves, moves_read, Under, under_same, under_then, goes_under, never_back, owner_owns}
 

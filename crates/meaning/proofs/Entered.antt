@@ -14,7 +14,7 @@ use Rattle.meaning.specs.Engine.{logged, node, owned, entered, new_effect}
 use Rattle.meaning.specs.WellFormed.{In, read_links, WellFormed}
 use Rattle.meaning.proofs.Laws.{up_other}
 use Rattle.meaning.proofs.Rings.{evaluate_ring}
-use Rattle.meaning.proofs.Still.{Given, given, Fixed, Still, renews_still, link_marks}
+use Rattle.meaning.proofs.Still.{Given, Fixed, Still, renews_still, link_marks}
 use Rattle.meaning.proofs.Binding.{SameReads, ReadsStay, stay_then, same_stay}
 use Rattle.meaning.proofs.Inside.{nobody, Static}
 use Rattle.meaning.proofs.Frames.{frame_same}

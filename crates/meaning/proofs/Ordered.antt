@@ -3,7 +3,7 @@ use mathlib.Core.Path.{◌≡◌, refl, sym, ap, ◌∙◌, subst}
 use mathlib.Core.Bool.{Bool, true, false, not, ◌||◌}
 use mathlib.Core.List.{List, [], ◌∷◌, ◌++◌, reverse}
 use mathlib.Core.Option.{Option, none, some}
-use Prim.Native.Nat.{ℕ, zero, suc, ◌+◌, ◌≤◌}
+use Prim.Native.Nat.{ℕ, zero, suc, ◌≤◌}
 use native.Mathlib.Omega.{arith}
 use lib.Dec.{ltb}
 use lib.ListN.{length, length-append, length-reverse}
@@ -11,7 +11,7 @@ use borrow.Author.Tests.{ltb-false}
 use Rattle.flags.specs.declared.Named.{Named}
 use Rattle.meaning.specs.State.{St, unclean, recursing}
 use Rattle.meaning.specs.Links.{several}
-use Rattle.meaning.specs.Marks.{Marks, marks, marks_of, halt, chain, calm, effects, notify, mark, stack_full, prop, turns, propagate}
+use Rattle.meaning.specs.Marks.{Marks, marks, halt, chain, calm, effects, notify, mark, stack_full, prop}
 use Rattle.meaning.specs.Order.{Climbed, stops, climbs, pending_at, Marked, quiet, queues, Walked, ends, passes, marks_one, goes_in}
 use Rattle.meaning.proofs.Laws.{clash, either, branch, none_some, same_some, or_true, or_left, or_right, or_false}
 use Rattle.meaning.proofs.Reached.{all, all_append}

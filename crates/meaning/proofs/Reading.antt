@@ -12,7 +12,7 @@ use Rattle.flags.specs.declared.Named.{Named}
 use Rattle.values.specs.Values.{is_zero}
 use Rattle.trees.specs.Trees.{Tree, constant, read, two, choose, names}
 use Rattle.meaning.specs.State.{St, Kind, signal, computed, effect, scope, readable, has_value, rank, f1, up}
-use Rattle.meaning.specs.Links.{head_of, last_of, goes_to, is_from, renew, spent, insert, link}
+use Rattle.meaning.specs.Links.{head_of, goes_to, renew, spent, insert, link}
 use Rattle.meaning.specs.Reads.{Ans, Out, eval_by, spread, settle_w, read_w}
 use Rattle.meaning.specs.Reserve.{reserve_of, live_links}
 use Rattle.meaning.specs.WellFormed.{In, read_links}

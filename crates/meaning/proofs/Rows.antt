@@ -3,20 +3,19 @@ use mathlib.Core.Path.{◌≡◌, refl, sym, ap, ap₂, ◌∙◌, subst}
 use mathlib.Core.Logic.{◌⊎◌, inl, inr}
 use mathlib.Core.Bool.{Bool, true, false, not, ◌&&◌}
 use mathlib.Core.List.{List, [], ◌∷◌, ◌++◌, append_assoc, append-nil}
-use mathlib.Core.Option.{none, some}
+use mathlib.Core.Option.{some}
 use Prim.Native.Nat.{ℕ, suc, ◌≤◌, ◌<◌}
 use native.Mathlib.Omega.{arith}
 use lib.ListN.{length, length-append}
 use Rattle.values.specs.Values.{same}
 use Rattle.lists.specs.Sum.{bit}
-use Rattle.meaning.specs.State.{St, Kind, effect, Row, readable, f0, nothing}
+use Rattle.meaning.specs.State.{St, Kind, effect, Row, readable, f0}
 use Rattle.meaning.specs.Setters.{with_queue}
 use Rattle.meaning.specs.Marks.{is_effect}
-use Rattle.meaning.specs.Engine.{logged, run, flush_on, flush, owned}
+use Rattle.meaning.specs.Engine.{run, flush_on, flush}
 use Rattle.meaning.specs.Refusals.{live_effects}
 use Rattle.meaning.specs.Owners.{Below, Owned}
 use Rattle.meaning.specs.WellFormed.{In}
-use Rattle.meaning.specs.Commands.{command, runs}
 use Rattle.meaning.proofs.Laws.{clash, either}
 use Rattle.meaning.proofs.Members.{most_marked}
 use Rattle.meaning.proofs.Owning.{owned_known}

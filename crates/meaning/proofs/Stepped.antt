@@ -10,7 +10,7 @@ use Rattle.flags.specs.declared.Named.{Named}
 use Rattle.values.specs.declared.Value.{Value}
 use Rattle.values.specs.Values.{value, same}
 use Rattle.trees.specs.Trees.{Tree, constant}
-use Rattle.meaning.specs.State.{St, Kind, signal, computed, effect, scope, a_signal, f0, f1, f2, f6, f17, nothing}
+use Rattle.meaning.specs.State.{St, Kind, signal, computed, effect, scope, a_signal, f0, f1, f6, f17, nothing}
 use Rattle.meaning.specs.Setters.{with_log, with_depth, set_fl, set_pend}
 use Rattle.meaning.specs.Links.{is_nil}
 use Rattle.meaning.specs.Marks.{marks_of, turns, propagate}

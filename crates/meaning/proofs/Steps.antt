@@ -11,7 +11,7 @@ use Rattle.meaning.specs.Links.{is_nil, head_of, each, cut, rewind, purge_w, las
 use Rattle.meaning.specs.Marks.{is_effect}
 use Rattle.meaning.specs.Reads.{check, evaluate}
 use Rattle.meaning.specs.Engine.{logged, rerun, run}
-use Rattle.meaning.proofs.Laws.{either, clash, branch, provided_same, up_same}
+use Rattle.meaning.proofs.Laws.{clash, branch, provided_same, up_same}
 use Rattle.meaning.proofs.Members.{is_nil-true, is_nil-false}
 
 -- ---- a run

@@ -7,8 +7,8 @@ use Prim.Native.Nat.{ℕ}
 use Rattle.values.specs.declared.Value.{Value}
 use Rattle.trees.specs.Trees.{Tree}
 use Rattle.meaning.specs.State.{St, Kind, Room, Row}
-use Rattle.meaning.specs.Links.{head_of, last_of, goes_to, is_from, renew, insert, link, cut}
-use Rattle.meaning.proofs.Laws.{branch, up_by}
+use Rattle.meaning.specs.Links.{renew, insert, link, cut}
+use Rattle.meaning.proofs.Laws.{up_by}
 use Rattle.meaning.proofs.Rings.{link_ways, Drops, Renews}
 
 -- what only the making of a node touches

@@ -7,16 +7,16 @@ use Prim.Native.Nat.{ℕ, ◌+◌, ◌≤◌, ◌<◌}
 use native.Mathlib.Omega.{arith}
 use lib.Dec.{leb, ltb, eqb}
 use lib.ListN.{length}
-use borrow.Author.Tests.{leb-false, eq-eqb, ne_eqb}
+use borrow.Author.Tests.{leb-false, eq-eqb}
 use Rattle.lists.specs.Sum.{bit, count, sum}
-use Rattle.lists.proofs.SumLaws.{bit_le, sum_add, sum_at_le}
+use Rattle.lists.proofs.SumLaws.{sum_add, sum_at_le}
 use Rattle.meaning.specs.State.{St, up, f0}
 use Rattle.meaning.specs.Setters.{set_fl, set_gone}
-use Rattle.meaning.specs.Links.{head_of, last_of, goes_to, is_from, renew, spent, insert, link, cut, rewind}
+use Rattle.meaning.specs.Links.{renew, spent, insert, link, cut, rewind}
 use Rattle.meaning.specs.Reserve.{reserve_of, reserve, live_links}
 use Rattle.meaning.specs.WellFormed.{In, WellFormed}
 use Rattle.meaning.specs.Moments.{Held, held, Step, unlinks, links, marks_gone, others, Steps, here, later, Moment}
-use Rattle.meaning.proofs.Laws.{clash, either, branch, or_first, or_left, or_right, up_by, up_same}
+use Rattle.meaning.proofs.Laws.{clash, either, or_first, or_left, or_right, up_by, up_same}
 use Rattle.meaning.proofs.Rings.{link_ways}
 use Rattle.meaning.proofs.Members.{total-least, total_spare}
 use Rattle.meaning.proofs.Still.{given}

@@ -10,7 +10,7 @@ use Rattle.meaning.specs.Setters.{with_queue, set_fl}
 use Rattle.meaning.specs.Reads.{check}
 use Rattle.meaning.specs.Marks.{Marks, marks_of, with_marks}
 use Rattle.meaning.specs.Engine.{rerun, run, flush_on}
-use Rattle.meaning.specs.Words.{Command, node_of}
+use Rattle.meaning.specs.Words.{Command}
 use Rattle.meaning.specs.WellFormed.{In}
 use Rattle.meaning.specs.Moments.{Steps}
 use Rattle.meaning.specs.Outcome.{Writes, sets, adds}

@@ -14,11 +14,11 @@ use Rattle.meaning.specs.State.{St, Kind, signal, readable, f1, f17, bare, has_v
 use Rattle.meaning.specs.Setters.{set_fl, set_sto, with_log}
 use Rattle.meaning.specs.Links.{provided}
 use Rattle.meaning.specs.Reads.{Ans, upd_signal, upd_w, fresh_w, fresh, spread, settle_w, settle}
-use Rattle.meaning.specs.Words.{Command, read_of, command_of, node_of}
+use Rattle.meaning.specs.Words.{read_of, command_of, node_of}
 use Rattle.meaning.specs.Refusals.{sight_of, asks_of, wrong_node, table}
 use Rattle.meaning.specs.WellFormed.{In, WellFormed}
 use Rattle.meaning.specs.Commands.{perform, Answer, accepted, command}
-use Rattle.meaning.proofs.Laws.{clash, either, branch, provided_same, up_by}
+use Rattle.meaning.proofs.Laws.{clash, branch, provided_same, up_by}
 use Rattle.meaning.proofs.Still.{given}
 use Rattle.meaning.proofs.Refused.{NoneHolds}
 use Rattle.meaning.proofs.Performed.{performed}

@@ -5,14 +5,14 @@ use mathlib.Core.Bool.{Bool, true, false, ◌||◌}
 use mathlib.Core.List.{List, [], ◌∷◌, ◌++◌}
 use Prim.Native.Nat.{ℕ, zero, suc, ◌+◌, ◌≤◌, ◌<◌}
 use native.Mathlib.Omega.{arith}
-use lib.Dec.{eqb, leb}
+use lib.Dec.{eqb}
 use lib.ListN.{length, length-append}
 use borrow.Author.Tests.{eqb-true, eqb-false, lt-leb}
 use Rattle.flags.specs.declared.Named.{Named}
 use Rattle.values.specs.declared.Value.{Value}
 use Rattle.values.specs.Values.{same}
 use Rattle.lists.proofs.SumLaws.{sum_add}
-use Rattle.meaning.specs.State.{St, signal, readable, a_signal, unclean, recursing, f17, up}
+use Rattle.meaning.specs.State.{St, signal, readable, a_signal, unclean, f17, up}
 use Rattle.meaning.specs.Setters.{set_fl, set_pend}
 use Rattle.meaning.specs.Links.{is_nil, several}
 use Rattle.meaning.specs.Marks.{Marks, marks_of, with_marks, halt, notify, mark, stack_full, prop, turns, propagate}

@@ -1,9 +1,7 @@
 -- What commands return; writes and ends, as what they leave: the pending values, and the flush as its runs one after the other. Assumes nothing.
 use mathlib.Core.Path.{◌≡◌, refl, sym, ap, ◌∙◌}
-use mathlib.Core.Bool.{true, false}
 use mathlib.Core.List.{List, []}
 use Prim.Native.Nat.{ℕ, zero, suc}
-use native.Mathlib.Omega.{arith}
 use lib.ListN.{length}
 use Rattle.values.specs.declared.Value.{Value}
 use Rattle.values.specs.Values.{same}
@@ -11,8 +9,8 @@ use Rattle.values.proofs.ValueLaws.{same_yes, yes_same}
 use Rattle.meaning.specs.State.{St, signal, a_signal, f17, up}
 use Rattle.meaning.specs.Setters.{set_fl, set_pend, with_depth, with_log}
 use Rattle.meaning.specs.Links.{provided, is_nil}
-use Rattle.meaning.specs.Marks.{Marks, marks_of, with_marks, prop, turns, propagate}
-use Rattle.meaning.specs.Engine.{flush_on, flush_at, store, end_at}
+use Rattle.meaning.specs.Marks.{marks_of, with_marks, prop, turns, propagate}
+use Rattle.meaning.specs.Engine.{flush_at, store, end_at}
 use Rattle.meaning.specs.Words.{Command, make_signal, make_computed, make_effect, make_scope, set_to, add_to, read_of, dispose_of, batch_start, batch_end}
 use Rattle.meaning.specs.Commands.{perform}
 use Rattle.meaning.specs.Outcome.{Writes, sets, adds, value_of}
