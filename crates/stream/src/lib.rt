@@ -2,7 +2,7 @@
 
 // Readers and writers: a window on what was read and not yet used, and all of what is to be written. What the system reads or writes, no contract
 // can say.
-ghost use Rattle.std.specs.Prelude.{length, ◌+◌, ◌<◌, ◌≤◌, min, max, false, ◌≡◌};
+ghost use Rattle.std.specs.Prelude.{length, ◌+◌, ◌^◌, ◌<◌, ◌≤◌, min, max, false, ◌≡◌};
 ghost use Rattle.stream.specs.Windows.{Front, Filled, Spilled, Taken};
 
 use std::env::{Env, FillError};
@@ -49,9 +49,13 @@ fn shift(buf: &mut [u8], at: usize, end: usize) -> usize
     to
 }
 
-// What failed, and the error's text, as a line on standard error. Where that can't be written there is nobody to tell.
-pub fn fail(rt: &impl Eprint, what: &str, error: io::Error) {
+// What failed, and the error's text, as a line on standard error. Where that can't be written there is nobody to tell. It answers no, as
+// what failed does.
+pub fn fail(rt: &impl Eprint, what: &str, error: io::Error) -> bool
+    ensures { result ≡ false }
+{
     let _ = eprintln!(rt; "{what}: {error}");
+    false
 }
 
 // Moves what is unread to the front and reads once more behind it. An error is told on standard error, and the input is over
@@ -264,7 +268,9 @@ fn is_there(rt: &impl Env, i: usize) -> bool {
 }
 
 // How many arguments the program was started with, its own name among them.
-pub fn argument_count(rt: &impl Env) -> usize {
+pub fn argument_count(rt: &impl Env) -> usize
+    ensures { result < 2 ^ 64 }
+{
     for i in 0..usize::MAX {
         if !is_there(rt, i) {
             return i;
