@@ -15,7 +15,6 @@ use Rattle.values.specs.Values.{value}
 use Rattle.trees.specs.Trees.{Tree}
 use Rattle.meaning.specs.State.{St, Kind, effect, Row, readable, f2, f6, nothing, up}
 use Rattle.meaning.specs.Setters.{with_log}
-use Rattle.meaning.specs.Reads.{fresh}
 use Rattle.meaning.specs.Engine.{node, owned}
 use Rattle.meaning.specs.Words.{Command, make_effect}
 use Rattle.meaning.specs.WellFormed.{In, Once, WellFormed}

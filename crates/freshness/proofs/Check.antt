@@ -1,7 +1,7 @@
 -- (a) settle and (e) check, from (c') for the nodes that they ask. Assumes nothing.
 use mathlib.Core.Path.{◌≡◌, refl, sym, ap, ap₂, ◌∙◌, subst}
 use mathlib.Core.Logic.{◌⊎◌, inl, inr}
-use mathlib.Core.Bool.{Bool, true, false}
+use mathlib.Core.Bool.{true, false}
 use mathlib.Core.List.{List, [], ◌∷◌, ◌++◌, append_assoc, append-nil}
 use Prim.Native.Nat.{ℕ, suc, ◌+◌, ◌≤◌, ◌<◌}
 use native.Mathlib.Omega.{arith}
@@ -11,7 +11,7 @@ use Rattle.meaning.specs.State.{St, signal, readable, bare, deps, f1}
 use Rattle.meaning.specs.Links.{is_nil, several}
 use Rattle.meaning.specs.Marks.{shallow}
 use Rattle.meaning.specs.Reads.{Ans, ans, settle_w, steady, check_on, check_w}
-use Rattle.meaning.specs.WellFormed.{In, clean, stale, dirty}
+use Rattle.meaning.specs.WellFormed.{In}
 use Rattle.freshness.specs.Evaluations.{in_check_on, in_check}
 pub use Rattle.meaning.proofs.Laws.{branches}
 use Rattle.meaning.proofs.Laws.{clash, false≢true, either, branch, in_left, in_right, in_cases}

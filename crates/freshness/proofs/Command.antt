@@ -16,7 +16,7 @@ use Rattle.meaning.specs.State.{St, Kind, signal, computed, effect, scope, Row, 
 use Rattle.meaning.specs.Setters.{with_log, with_depth}
 use Rattle.meaning.specs.Links.{dispose}
 use Rattle.meaning.specs.Reads.{fresh, settle}
-use Rattle.meaning.specs.Engine.{logged, node, owned, flush, store, new_signal, new_computed, new_scope, new_effect, end_at}
+use Rattle.meaning.specs.Engine.{node, owned, flush, store, new_signal, new_computed, new_scope, new_effect, end_at}
 use Rattle.meaning.specs.Words.{Command, make_signal, make_computed, make_effect, make_scope, set_to, add_to, read_of, dispose_of, batch_start, batch_end, node_of, owner_of, formula_of}
 use Rattle.meaning.specs.Refusals.{sight_of, asks_of, a_signal, an_owner, wrong_node, gone_node, bad_formula, too_high, no_room, wrong_depth, table}
 use Rattle.meaning.specs.Marks.{is_effect}

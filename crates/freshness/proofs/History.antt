@@ -8,7 +8,7 @@ use Prim.Native.Nat.{ℕ, zero, suc, ◌+◌, ◌≤◌, ◌<◌, ◌^◌}
 use native.Mathlib.Omega.{arith}
 use lib.IntN.{ℤ}
 use Rattle.values.specs.declared.Value.{Value}
-use Rattle.trees.specs.Trees.{Tree, worth}
+use Rattle.trees.specs.Trees.{Tree}
 use Rattle.meaning.specs.State.{St, Kind, effect, Room, Row, nothing, empty, capacities}
 use Rattle.meaning.specs.Setters.{with_log}
 use Rattle.meaning.specs.Words.{Command, command_of}

@@ -1,15 +1,15 @@
 -- (d): shallow propagation. The subscribers of d were exempt; all of them outside A are pending; now they are dirty, and nobody but A is exempt. Assumes nothing.
-use mathlib.Core.Path.{◌≡◌, refl, sym, ap, ◌∙◌, subst}
+use mathlib.Core.Path.{◌≡◌, sym, ap, ◌∙◌, subst}
 use mathlib.Core.Logic.{inl, inr}
-use mathlib.Core.Bool.{Bool, true, false, not, ◌&&◌}
-use mathlib.Core.List.{List, ◌∷◌}
+use mathlib.Core.Bool.{true, false}
+use mathlib.Core.List.{List}
 use Prim.Native.Nat.{ℕ}
 use Rattle.flags.specs.declared.Named.{Named}
 use Rattle.values.specs.declared.Value.{Value}
-use Rattle.meaning.specs.State.{St, unclean, with_dirty, up}
-use Rattle.meaning.specs.Marks.{soil, shallow}
+use Rattle.meaning.specs.State.{St, unclean}
+use Rattle.meaning.specs.Marks.{shallow}
 use Rattle.meaning.specs.WellFormed.{In}
-use Rattle.meaning.proofs.Laws.{clash, false≢true, either, branch, or_last, up_same, up_by}
+use Rattle.meaning.proofs.Laws.{clash, either, or_last}
 use Rattle.meaning.proofs.Still.{Given}
 use Rattle.meaning.proofs.Inside.{Set, Slots}
 use Rattle.meaning.proofs.Soiling.{Turn, stays, turns, soil_turn, turn_dirty, soil_here}

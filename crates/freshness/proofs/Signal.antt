@@ -10,7 +10,6 @@ use Rattle.flags.specs.declared.Named.{Named}
 use Rattle.values.specs.declared.Value.{Value}
 use Rattle.values.specs.Values.{same}
 use Rattle.values.proofs.ValueLaws.{same_yes, yes_same}
-use Rattle.trees.specs.Trees.{reads}
 use Rattle.meaning.specs.State.{St, signal, computed, effect, readable, unclean, bare, f1, up}
 use Rattle.meaning.specs.Reads.{Ans, upd_signal}
 use Rattle.meaning.proofs.Laws.{clash, either, up_same, up_other, up_by}

@@ -9,7 +9,6 @@ use lib.Dec.{eqb}
 use borrow.Author.Tests.{eqb-true, eqb-false}
 use Rattle.flags.specs.declared.Named.{Named}
 use Rattle.values.specs.declared.Value.{Value}
-use Rattle.trees.specs.Trees.{reads}
 use Rattle.meaning.specs.State.{St, Kind, signal, computed, effect, scope, readable, unclean, bare, deps, f1, f17, with_pending, raised, up}
 use Rattle.meaning.specs.Setters.{set_fl}
 use Rattle.meaning.specs.Reads.{Ans, ans, first_w, check_w, upd_w, pending_w, fresh_w, fresh, settle}

@@ -1,5 +1,5 @@
 -- What demand 3 fixes on lent tables: an engine that keeps it answers and logs as `command` does, and leaves tables of document 01's state, alike to those of `command` in each word that says something. Assumes nothing.
-use mathlib.Core.Path.{◌≡◌, refl, sym, ap, ap₂, ◌∙◌, subst}
+use mathlib.Core.Path.{◌≡◌, refl, sym, ap₂, ◌∙◌, subst}
 use mathlib.Core.Bool.{true}
 use mathlib.Core.List.{List, [], ◌∷◌}
 use Prim.Native.Nat.{ℕ, ◌/◌, ◌<◌, ◌^◌}

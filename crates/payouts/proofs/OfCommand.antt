@@ -3,13 +3,10 @@
 use mathlib.Core.Path.{◌≡◌, refl, sym, ap, ◌∙◌, subst}
 use mathlib.Core.Bool.{true}
 use mathlib.Core.List.{List, [], ◌∷◌, ◌++◌}
-use Prim.Native.Nat.{ℕ}
-use lib.IntN.{ℤ}
-use Rattle.counting.specs.Counts.{carry_in}
 use Rattle.refusing.specs.Sight.{room_in}
 use Rattle.operating.specs.Emptying.{emptying}
 use Rattle.commanding.specs.Command.{Answered}
-use Rattle.meaning.specs.State.{St, Room, capacities, empty}
+use Rattle.meaning.specs.State.{St, Room, capacities}
 use Rattle.freshness.specs.History.{Call, seen, meant, Course, now, after, begin}
 use Rattle.freshness.specs.Right.{Demand3}
 use Rattle.freshness.proofs.History.{demand3}
