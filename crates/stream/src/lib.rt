@@ -6,6 +6,7 @@ ghost use Rattle.std.specs.Prelude.{length, ◌+◌, ◌^◌, ◌<◌, ◌≤◌
 ghost use Rattle.stream.specs.Windows.{Front, Filled, Spilled, Taken};
 
 use std::env::{Env, FillError};
+use std::fmt::InlineText;
 use std::io;
 use std::io::{Read, Write};
 
@@ -49,12 +50,22 @@ fn shift(buf: &mut [u8], at: usize, end: usize) -> usize
     to
 }
 
+// The text of a system's error, without the number that std writes behind it.
+fn unnumbered(text: &str) -> &str {
+    match text.split_once(" (os error ") {
+        Some((before, _)) => before,
+        None => text,
+    }
+}
+
 // What failed, and the error's text, as a line on standard error. Where that can't be written there is nobody to tell. It answers no, as
 // what failed does.
 pub fn fail(rt: &impl Eprint, what: &str, error: io::Error) -> bool
     ensures { result ≡ false }
 {
-    let _ = eprintln!(rt; "{what}: {error}");
+    let all = InlineText::<256>::of(&error);
+    let text = unnumbered(all.as_str());
+    let _ = eprintln!(rt; "{what}: {text}");
     false
 }
 
