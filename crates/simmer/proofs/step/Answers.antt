@@ -1,5 +1,4 @@
 -- `simmer::step` meets its contract. Assumes nothing.
-use borrow.Author.Rules.{rules}
 use mathlib.Core.Logic.{inl, inr}
 use Rattle.simmer.proofs.StepLaws.{stops, step_more, step_answered, step_ended}
 use Rattle.simmer.proofs.step.Goals as goal
@@ -9,9 +8,6 @@ returns-then-buf-end g c = stops _ (inr c.if-buf-end.true)
 
 pub returns-then-end-at : goal.returns-then-end-at
 returns-then-end-at g c = stops _ (inl c.if-end-at.true)
-
-pub send-requires-in-Ended : goal.send-requires-in-Ended
-send-requires-in-Ended g c = search rules
 
 pub returns-in-More : goal.returns-in-More
 returns-in-More g c = step_more _ c.if-end-at.false c.if-buf-end.false c.turn-what.ensures c.in-More.is c.fill-more.ensures
