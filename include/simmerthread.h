@@ -12,7 +12,7 @@
  *     its type;
  *   - nothing that is lent to one call overlaps: tables, log or rows, words or list, answers, reply;
  *   - nobody else touches these during a call. Two threads may work on two sets of tables, not on one;
- *   - the calling thread has stack enough, which no proof bounds: 1 MiB is three times what we measured (docs/HOST.md).
+ *   - the calling thread has stack enough, which no proof bounds: 1 MiB is six times what we measured (docs/HOST.md).
  *
  * Build: `tools/build library` writes target/staticlib/libhost.a (x86-64 Linux). Then
  *
