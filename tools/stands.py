@@ -12,7 +12,8 @@ listed = {l.split(':')[0].split()[0]: set(l.split(':')[1].split()) for l in line
 
 def named(crate):
     found = set()
-    for folder, _, files in os.walk(os.path.join('crates', crate)):
+    for folder, folders, files in os.walk(os.path.join('crates', crate)):
+        folders[:] = [f for f in folders if f != 'out']
         for f in files:
             if f.endswith(('.rt', '.antt')):
                 text = re.sub(r'//[^\n]*', '', open(os.path.join(folder, f), encoding='utf-8').read())
