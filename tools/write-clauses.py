@@ -8,7 +8,7 @@ each line 'FILE:LINE:COL: error: `F`: write the clause `C = elim x [ ]`',
 (or the several clauses listed below 'write the clauses') and writes C before
 the first clause of its definition (at FILE:LINE), and checks
 again until no such line is left or nothing changed. The last output of the
-check stays in /tmp/write-clauses-CRATE.log.
+check stays in target/write-clauses-CRATE.log.
 """
 import os
 import re
@@ -36,7 +36,8 @@ def main():
     for number in range(rounds):
         ran = subprocess.run(["rt", "check"], cwd=folder, capture_output=True, text=True)
         said = ran.stdout + ran.stderr
-        with open(f"/tmp/write-clauses-{crate}.log", "w") as log:
+        os.makedirs("target", exist_ok=True)
+        with open(f"target/write-clauses-{crate}.log", "w") as log:
             log.write(said)
         asked = {}
         many = None
@@ -86,7 +87,7 @@ def main():
         if not wrote:
             break
     errors = [l for l in said.splitlines() if ": error:" in l]
-    print(f"{len(errors)} errors left (/tmp/write-clauses-{crate}.log)")
+    print(f"{len(errors)} errors left (target/write-clauses-{crate}.log)")
     for l in errors:
         if "depend on" not in l and "depends on" not in l:
             print(l)
