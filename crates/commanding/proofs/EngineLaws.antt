@@ -1,4 +1,5 @@
 -- The ways through the decision and the answer, one law each. Assumes nothing.
+use Rattle.std.specs.Prelude.{Option, Some, None}
 use mathlib.Core.Path.{◌≡◌, refl, sym, ap, ◌∙◌, subst}
 use mathlib.Core.Bool.{Bool, true, false}
 use mathlib.Core.List.{List}
@@ -8,8 +9,6 @@ use lib.IntN.{ℤ, pos}
 use lib.ListN.{length}
 use mir.Syntax.{w64}
 use mir.Val.{SFits}
-use Rattle.trees.specs.declared.cells.Number.{Number}
-use Rattle.trees.specs.declared.cells.Number.TheVariants.{Is, None}
 use Rattle.trees.specs.Cells.{natural_of}
 use Rattle.trees.proofs.CellLaws.{natural_pos, natural_neg}
 use Rattle.telling.specs.Whole.{described_in}
@@ -36,20 +35,20 @@ use Rattle.commanding.specs.Perform.{Done, done, owner_word, numbered, performed
 use Rattle.commanding.specs.Command.{Answered, accepted, refused, refusal_on, refusal_in, answer, command_on, command_in}
 
 -- ---- numbers of nodes and owners
-module _ (k : ℤ) {r : Number} (found : r ≡ natural_of k) where
-  pub node_is : (n : ℕ) → r ≡ Is n → n ≡ node_of k
+module _ (k : ℤ) {r : Option ℕ} (found : r ≡ natural_of k) where
+  pub node_is : (n : ℕ) → r ≡ Some n → n ≡ node_of k
   node_is n e = sym (ap node_of (natural_pos k found n e))
 
   pub node_none : r ≡ None → 0 ≡ node_of k
   node_none e = natural_neg k found (λ (z : ℤ). 0 ≡ node_of z) e (λ n. refl)
 
-  pub owner_is_word : (n : ℕ) → r ≡ Is n → n + 1 ≡ owner_word k
+  pub owner_is_word : (n : ℕ) → r ≡ Some n → n + 1 ≡ owner_word k
   owner_is_word n e = add-one n ∙ sym (ap owner_word (natural_pos k found n e))
 
   pub owner_none : r ≡ None → 0 ≡ owner_word k
   owner_none e = natural_neg k found (λ (z : ℤ). 0 ≡ owner_word z) e (λ n. refl)
 
-  pub owner_low : SFits w64 k → (n : ℕ) → r ≡ Is n → n < 2 ^ 63
+  pub owner_low : SFits w64 k → (n : ℕ) → r ≡ Some n → n < 2 ^ 63
   owner_low f n e = (subst (SFits w64) (natural_pos k found n e) f).sfits
 
 -- ---- the test

@@ -1,4 +1,5 @@
 -- The cells of a node's formula, and what they name, by what the code finds on its way. Assumes nothing.
+use Rattle.std.specs.Prelude.{Option, Some, None}
 use mathlib.Core.Path.{◌≡◌, refl, ap, ◌∙◌}
 use mathlib.Core.Bool.{Bool, true, false, ◌&&◌}
 use mathlib.Core.List.{List, [], ◌∷◌}
@@ -9,8 +10,6 @@ use lib.ListN.{length, take, drop}
 use borrow.Author.Tests.{le-leb, lt-leb}
 use Rattle.primitive.specs.Rows.{field}
 use Rattle.trees.specs.declared.cells.Cell.{Cell}
-use Rattle.trees.specs.declared.cells.Number.{Number}
-use Rattle.trees.specs.declared.cells.Number.TheVariants.{Is, None}
 use Rattle.trees.specs.Cells.{name_of, cell_at, or_else}
 use Rattle.trees.specs.Names.{named, all_named}
 use Rattle.trees.proofs.ScanLaws.{named_turns, named_done}
@@ -38,9 +37,9 @@ module _ (ws : List ℤ) (n : ℕ) where
   unfolding cell_lower all_lower
   lower_turns i h = ap (λ (ms : List ℕ). all_lower ms n) (named_turns ws i h) ∙ go (name_of (cell_at ws i)) _
     where
-      go : (x : Number) (ms : List ℕ) → all_lower (or_else x ms (λ (m : ℕ). m ∷ ms)) n ≡ (or_else x true (λ (m : ℕ). lower_rank m n) && all_lower ms n)
+      go : (x : Option ℕ) (ms : List ℕ) → all_lower (or_else x ms (λ (m : ℕ). m ∷ ms)) n ≡ (or_else x true (λ (m : ℕ). lower_rank m n) && all_lower ms n)
       go None ms = refl
-      go (Is m) ms = refl
+      go (Some m) ms = refl
 
   module _ (i : ℕ) {c : Cell} {r : Bool} (h : i < length ws / 2) (e : c ≡ cell_at ws i) (f : r ≡ cell_lower n c) where
     pub lower_false : r ≡ false → false ≡ all_lower (named ws (length ws / 2 - i) i) n

@@ -8,7 +8,7 @@ use formula::legal::legal;
 use formula::scans::read_cells;
 use primitive::rows::{CELLS, NODE, READS, START};
 use primitive::words;
-use trees::cells::{Cell, Number};
+use trees::cells::Cell;
 
 // The cells of node n's formula; none where they do not lie inside the cells that are lent.
 pub fn own_cells<'a>(nodes: &[u64], cells: &'a [i64], n: u64) -> &'a [i64]
@@ -32,7 +32,7 @@ pub fn own_cells<'a>(nodes: &[u64], cells: &'a [i64], n: u64) -> &'a [i64]
 fn cell_lower(c: Cell, n: u64) -> bool
     ensures { result ≡ cell_lower n c }
 {
-    let Number::Is(m) = name(c) else {
+    let Some(m) = name(c) else {
         return true;
     };
     rank::lower(m, n)

@@ -13,7 +13,6 @@ use operations::log::number_word;
 use operations::writes::{add, set};
 use reads::read::read;
 use refusing::commands::Command;
-use trees::cells::Number;
 use values::Value;
 
 // The value returned, and how many effects ran.
@@ -27,7 +26,7 @@ pub struct Done {
 fn node_of(k: i64) -> u64
     ensures { result ≡ node_of k }
 {
-    let Number::Is(n) = natural(k) else {
+    let Some(n) = natural(k) else {
         return 0;
     };
     n
@@ -37,7 +36,7 @@ fn node_of(k: i64) -> u64
 fn owner_word(k: i64) -> u64
     ensures { result ≡ owner_word k }
 {
-    let Number::Is(n) = natural(k) else {
+    let Some(n) = natural(k) else {
         return 0;
     };
     n + 1

@@ -3,22 +3,22 @@ ghost use Rattle.std.specs.Prelude.{◌≡◌};
 ghost use Rattle.trees.specs.Cells.{natural_of, cell_of, bare_of, read_of, arity_of, name_of, cell_at, end_of};
 
 use primitive::words;
-use trees::cells::{Cell, Number, Op};
+use trees::cells::{Cell, Op};
 
-pub fn natural(k: i64) -> Number
+pub fn natural(k: i64) -> Option<u64>
     ensures { result ≡ natural_of k }
 {
     if k < 0 {
-        return Number::None;
+        return None;
     }
-    Number::Is(k as u64)
+    Some(k as u64)
 }
 
 // A cell that carries operand 0.
 fn bare(operand: i64, c: Cell) -> Cell
     ensures { result ≡ bare_of operand c }
 {
-    let Number::Is(n) = natural(operand) else {
+    let Some(n) = natural(operand) else {
         return Cell::Bad;
     };
     if n == 0 { c } else { Cell::Bad }
@@ -27,7 +27,7 @@ fn bare(operand: i64, c: Cell) -> Cell
 fn read(operand: i64) -> Cell
     ensures { result ≡ read_of operand }
 {
-    let Number::Is(n) = natural(operand) else {
+    let Some(n) = natural(operand) else {
         return Cell::Bad;
     };
     Cell::Read(n)
@@ -36,7 +36,7 @@ fn read(operand: i64) -> Cell
 pub fn cell_of(code: i64, operand: i64) -> Cell
     ensures { result ≡ cell_of code operand }
 {
-    let Number::Is(c) = natural(code) else {
+    let Some(c) = natural(code) else {
         return Cell::Bad;
     };
     if c == 1 {
@@ -67,28 +67,28 @@ pub fn cell_of(code: i64, operand: i64) -> Cell
 }
 
 // How many arguments a cell takes.
-pub fn arity(c: Cell) -> Number
+pub fn arity(c: Cell) -> Option<u64>
     ensures { result ≡ arity_of c }
 {
     match c {
-        Cell::Constant(_) => Number::Is(0),
-        Cell::Read(_) => Number::Is(0),
-        Cell::Two(_) => Number::Is(2),
-        Cell::Choose => Number::Is(3),
-        Cell::Bad => Number::None,
+        Cell::Constant(_) => Some(0),
+        Cell::Read(_) => Some(0),
+        Cell::Two(_) => Some(2),
+        Cell::Choose => Some(3),
+        Cell::Bad => None,
     }
 }
 
 // The node that a cell names: a read cell does, no other.
-pub fn name(c: Cell) -> Number
+pub fn name(c: Cell) -> Option<u64>
     ensures { result ≡ name_of c }
 {
     match c {
-        Cell::Constant(_) => Number::None,
-        Cell::Read(n) => Number::Is(n),
-        Cell::Two(_) => Number::None,
-        Cell::Choose => Number::None,
-        Cell::Bad => Number::None,
+        Cell::Constant(_) => None,
+        Cell::Read(n) => Some(n),
+        Cell::Two(_) => None,
+        Cell::Choose => None,
+        Cell::Bad => None,
     }
 }
 
@@ -111,7 +111,7 @@ pub fn end(cells: &[i64], i: u64) -> u64
     let mut at = i;
     let mut owed: u64 = 1;
     while 0 < owed {
-        let Number::Is(n) = arity(cell_at(cells, at)) else {
+        let Some(n) = arity(cell_at(cells, at)) else {
             return at;
         };
         owed = owed - 1 + n;

@@ -5,7 +5,7 @@ ghost use Rattle.trees.specs.Legal.{readable_in, known_in, takes_in, one_at, leg
 use crate::cells::{arity, cell_at, name};
 use primitive::rows::{COMPUTED, COUNT, KIND, NODE, SIGNAL};
 use primitive::words;
-use trees::cells::{Cell, Number};
+use trees::cells::Cell;
 
 pub const MOST_CELLS: usize = 64;
 
@@ -29,42 +29,42 @@ pub fn readable(nodes: &[u64], n: u64) -> bool
 fn known(nodes: &[u64], c: Cell) -> bool
     ensures { result ≡ known_in nodes.now c }
 {
-    let Number::Is(n) = name(c) else {
+    let Some(n) = name(c) else {
         return true;
     };
     readable(nodes, n)
 }
 
 // How many arguments the cell takes; none where it names what cannot be read.
-fn takes(nodes: &[u64], c: Cell) -> Number
+fn takes(nodes: &[u64], c: Cell) -> Option<u64>
     ensures { result ≡ takes_in nodes.now c }
 {
     if !known(nodes, c) {
-        return Number::None;
+        return None;
     }
     arity(c)
 }
 
 // Where the one expression from cell i on ends, if it is of nesting at most `depth`.
-fn one(nodes: &[u64], cells: &[i64], depth: u64, i: u64) -> Number
+fn one(nodes: &[u64], cells: &[i64], depth: u64, i: u64) -> Option<u64>
     ensures { result ≡ one_at nodes.now cells.now depth i }
 {
     if depth == 0 {
-        return Number::None;
+        return None;
     }
-    let Number::Is(n) = takes(nodes, cell_at(cells, i)) else {
-        return Number::None;
+    let Some(n) = takes(nodes, cell_at(cells, i)) else {
+        return None;
     };
     let mut left = n;
     let mut at = i + 1;
     while 0 < left {
-        let Number::Is(j) = one(nodes, cells, depth - 1, at) else {
-            return Number::None;
+        let Some(j) = one(nodes, cells, depth - 1, at) else {
+            return None;
         };
         at = j;
         left -= 1;
     }
-    Number::Is(at)
+    Some(at)
 }
 
 pub fn legal(nodes: &[u64], cells: &[i64]) -> bool
@@ -77,7 +77,7 @@ pub fn legal(nodes: &[u64], cells: &[i64]) -> bool
     if count > MOST_CELLS {
         return false;
     }
-    let Number::Is(j) = one(nodes, cells, MOST_NESTING, 0) else {
+    let Some(j) = one(nodes, cells, MOST_NESTING, 0) else {
         return false;
     };
     j == count as u64

@@ -5,7 +5,7 @@ ghost use Rattle.trees.specs.Names.{read_cells, most_height, height_in, is_read,
 use crate::cells::{cell_at, name};
 use primitive::rows::{LEVEL, NODE};
 use primitive::words;
-use trees::cells::{Cell, Number};
+use trees::cells::Cell;
 
 pub const MOST_HEIGHT: u64 = 64;
 
@@ -30,7 +30,7 @@ pub fn read_cells(cells: &[i64]) -> u64
 fn reads(c: Cell) -> u64
     ensures { result ≡ is_read c }
 {
-    let Number::Is(_) = name(c) else {
+    let Some(_) = name(c) else {
         return 0;
     };
     1
@@ -40,7 +40,7 @@ fn reads(c: Cell) -> u64
 fn taller(nodes: &[u64], c: Cell, most: u64) -> u64
     ensures { result ≡ taller_in nodes.now c most }
 {
-    let Number::Is(n) = name(c) else {
+    let Some(n) = name(c) else {
         return most;
     };
     let level = words::get(nodes, NODE, n, LEVEL);

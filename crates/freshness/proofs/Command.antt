@@ -1,8 +1,8 @@
 -- V7: every accepted command keeps the clauses, with the last written values and the records that the history tells. Assumes nothing.
+use Rattle.std.specs.Prelude.{Option, None, Some}
 use mathlib.Core.Path.{◌≡◌, refl, sym, ap, ap₂, ◌∙◌, subst}
 use mathlib.Core.Bool.{Bool, true, false, ◌||◌}
 use mathlib.Core.List.{List, [], ◌∷◌, ◌++◌}
-use mathlib.Core.Option.{Option, none, some}
 use Prim.Native.Nat.{ℕ, zero, suc, ◌+◌, ◌<◌, pred}
 use native.Mathlib.Omega.{arith}
 use lib.Dec.{eqb}
@@ -179,17 +179,17 @@ module _ (P : Course) (so : Sound P) (rows : ℕ) where
       plainly P so rows batch_end p g (with_depth s (suc d)) nothing (beside g p ρ nobody nobody s v s.queue (suc d) [] s.stuck) refl refl refl
       (ne_eqb P.past.depth 1 (λ q. let z = ag.depth in omega arith)) refl refl (λ a b y. so.clean a) so.unwritten shown ag.gone (ap pred (sym e ∙ ag.depth)) (λ m h ke a. as_found P so rows (with_depth s (suc d)) (λ z l. refl) m h ke a refl)
 
-  pub stepped : (k : Command) → NoneHolds (table true (sight_of P.st rows) (some k)) → s.cycle + inPerform s k < limit → (g' : Given) × Step P k (then k) g' (perform s k).st (perform s k).val (inPerform s k)
+  pub stepped : (k : Command) → NoneHolds (table true (sight_of P.st rows) (Some k)) → s.cycle + inPerform s k < limit → (g' : Given) × Step P k (then k) g' (perform s k).st (perform s k).val (inPerform s k)
   unfolding table perform count_perform written changed wrong_node gone_node bad_formula too_high no_room wrong_depth asks_of names new_signal new_computed new_scope new_effect recorded rested whos
   stepped (make_signal x) h fits =
       let c = constant (pos 0) in
-      let N = node s signal c none f1 (value x) in (
+      let N = node s signal c None f1 (value x) in (
         given N,
         plainly P so rows (make_signal x) (then (make_signal x)) (given N) N _
             (subst (λ (f : ℕ → Value). Inv (given N) f ρ nobody nobody N) (ap (λ (f : ℕ → Value). up f s.size (value x)) v.last)
-            (plain_keeps s w signal c f1 (value x) refl ρ v₀ none (signal_fits P.st rows so.formed x h) (λ q e. none_some e) (λ e. false≢true (sym (ap readable e))) (λ e. false≢true (sym (ap is_computed e)))))
+            (plain_keeps s w signal c f1 (value x) refl ρ v₀ None (signal_fits P.st rows so.formed x h) (λ q e. none_some e) (λ e. false≢true (sym (ap readable e))) (λ e. false≢true (sym (ap is_computed e)))))
             refl refl refl refl number_is refl (λ a b. false≢true b) (λ m y. up_other p s.size (value x) m (λ e. omega arith) ∙ so.unwritten m (omega arith))
-            (shown_new P so rows signal c none f1 (value x)) gone_new ag.depth
+            (shown_new P so rows signal c None f1 (value x)) gone_new ag.depth
             (found_new P so rows signal N (λ e. false≢true (sym (ap readable e))) (λ d f. (up_other s.sto s.size (value x) d f, up_other s.fl s.size f1 d f, up_other s.gone s.size false d f))),
       )
     where
@@ -200,12 +200,12 @@ module _ (P : Course) (so : Sound P) (rows : ℕ) where
       is_computed scope = false
   stepped (make_computed cs) h fits =
       let c = formula_of cs in
-      let N = node s computed c none f0 nothing in (
+      let N = node s computed c None f0 nothing in (
         given N,
         plainly P so rows (make_computed cs) p (given N) N _
             (subst (λ (f : ℕ → Value). Inv (given N) f ρ nobody nobody N) unsaid
-            (plain_keeps s w computed c f0 nothing refl ρ v₀ none (computed_fits P.st rows so.formed cs h) (λ q e. none_some e) (λ e. false≢true (sym (ap readable e))) (λ e. refl)))
-            refl refl refl refl number_is refl (λ a b. false≢true b) (λ m y. so.unwritten m (omega arith)) (shown_new P so rows computed c none f0 nothing) gone_new ag.depth
+            (plain_keeps s w computed c f0 nothing refl ρ v₀ None (computed_fits P.st rows so.formed cs h) (λ q e. none_some e) (λ e. false≢true (sym (ap readable e))) (λ e. refl)))
+            refl refl refl refl number_is refl (λ a b. false≢true b) (λ m y. so.unwritten m (omega arith)) (shown_new P so rows computed c None f0 nothing) gone_new ag.depth
             (found_new P so rows computed N (λ e. false≢true (sym (ap readable e))) (λ d f. (up_other s.sto s.size nothing d f, up_other s.fl s.size f0 d f, up_other s.gone s.size false d f))),
       )
   stepped (make_effect o cs) h fits =

@@ -1,9 +1,9 @@
 -- Which nodes are gone: a run takes all that its effect owns and nothing else, a disposal the node too; what the rows tell is what the state says. Assumes nothing.
+use Rattle.std.specs.Prelude.{Option, None, Some}
 use mathlib.Core.Path.{◌≡◌, refl, sym, ap, ap₂, ◌∙◌, subst}
 use mathlib.Core.Logic.{inl, inr}
 use mathlib.Core.Bool.{Bool, true, false, ◌||◌}
 use mathlib.Core.List.{List, [], ◌∷◌, ◌++◌}
-use mathlib.Core.Option.{Option, none, some}
 use Prim.Native.Nat.{ℕ, zero, suc, ◌≤◌, ◌<◌}
 use native.Mathlib.Omega.{arith}
 use lib.Dec.{eqb}
@@ -21,14 +21,14 @@ use Rattle.meaning.proofs.Inside.{Set, nobody, Static, Inside, Under}
 use Rattle.meaning.proofs.Frames.{Frame}
 
 -- ---- owners
-owner_below : (owner : ℕ → Option ℕ) (k x y : ℕ) → owns_n k owner x y ≡ true → (o : ℕ) × (owner y ≡ some o) × Below owner x o
+owner_below : (owner : ℕ → Option ℕ) (k x y : ℕ) → owns_n k owner x y ≡ true → (o : ℕ) × (owner y ≡ Some o) × Below owner x o
 unfolding owns_n
 owner_below owner zero x y e = false≢true e
 owner_below owner (suc k) x y e = go (owner_below owner k x) (owner y) refl e
   where
-    go : ((o : ℕ) → owns_n k owner x o ≡ true → (p : ℕ) × (owner o ≡ some p) × Below owner x p) → (p : Option ℕ) → owner y ≡ p → on p (λ o. eqb o x || owns_n k owner x o) ≡ true → (o : ℕ) × (owner y ≡ some o) × Below owner x o
-    go f none q z = false≢true z
-    go f (some o) q z = (o, q, either (eqb o x) (λ a. itself (eqb-true o x a)) (λ a. let r = f o (or_one (eqb o x) (owns_n k owner x o) z a) in through r.0 r.2 r.1))
+    go : ((o : ℕ) → owns_n k owner x o ≡ true → (p : ℕ) × (owner o ≡ Some p) × Below owner x p) → (p : Option ℕ) → owner y ≡ p → on p (λ o. eqb o x || owns_n k owner x o) ≡ true → (o : ℕ) × (owner y ≡ Some o) × Below owner x o
+    go f None q z = false≢true z
+    go f (Some o) q z = (o, q, either (eqb o x) (λ a. itself (eqb-true o x a)) (λ a. let r = f o (or_one (eqb o x) (owns_n k owner x o) z a) in through r.0 r.2 r.1))
 
 module _ (g : Given) (st : Static g) where
   below_owner : (k x y : ℕ) → y < g.size → y < k → Below g.owner x y → (y ≡ x → ⊥) → owns_n k g.owner x y ≡ true
@@ -57,7 +57,7 @@ module _ (g : Given) (st : Static g) where
 
   -- ---- what goes with its owner
   module _ (t : St) (i : Inside g nobody t) where
-    child_gone : (y o : ℕ) → y < g.size → g.owner y ≡ some o → t.gone o ≡ true → t.gone y ≡ true
+    child_gone : (y o : ℕ) → y < g.size → g.owner y ≡ Some o → t.gone o ≡ true → t.gone y ≡ true
     child_gone y o h q a =
         let lo = st.owner_lower y o h q in
         either (t.gone y) (λ z. z) (λ z.
@@ -67,11 +67,11 @@ module _ (g : Given) (st : Static g) where
         absurd (nil_none (deps t o) c.0 (ap₂ (λ (u v : List ℕ). u ++ v) (r.bare a).0 r.tail) (subst (λ (n : ℕ). In c.0 (deps t n)) c.2 (i.lists.live_in_deps c.0 lv.0))))
 
     -- all that x owns is gone, if what it owns directly is
-    owned_by : (x : ℕ) → ((y : ℕ) → y < g.size → g.owner y ≡ some x → t.gone y ≡ true) → (y o : ℕ) → y < g.size → g.owner y ≡ some o → Below g.owner x o → t.gone y ≡ true
-    owned_by x own y o h q (itself e) = own y h (q ∙ ap some e)
+    owned_by : (x : ℕ) → ((y : ℕ) → y < g.size → g.owner y ≡ Some x → t.gone y ≡ true) → (y o : ℕ) → y < g.size → g.owner y ≡ Some o → Below g.owner x o → t.gone y ≡ true
+    owned_by x own y o h q (itself e) = own y h (q ∙ ap Some e)
     owned_by x own y o h q (through p b z) = let lo = st.owner_lower y o h q in child_gone y o h q (owned_by x own o p (omega arith) z b)
 
-    pub owns_gone : (x : ℕ) → ((y : ℕ) → y < g.size → g.owner y ≡ some x → t.gone y ≡ true) → (y : ℕ) → y < g.size → owns g.owner x y ≡ true → t.gone y ≡ true
+    pub owns_gone : (x : ℕ) → ((y : ℕ) → y < g.size → g.owner y ≡ Some x → t.gone y ≡ true) → (y : ℕ) → y < g.size → owns g.owner x y ≡ true → t.gone y ≡ true
     owns_gone x own y h e = let b = owner_below g.owner (suc y) x y e in owned_by x own y b.0 h b.1 b.2
 
     pub gone_owns : (x : ℕ) → t.gone x ≡ true → (y : ℕ) → y < g.size → owns g.owner x y ≡ true → t.gone y ≡ true

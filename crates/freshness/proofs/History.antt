@@ -1,9 +1,9 @@
 -- Demand 3, proved of every history. Assumes nothing.
+use Rattle.std.specs.Prelude.{Option, None, Some}
 use mathlib.Core.Path.{◌≡◌, refl, sym, ap, ap₂, ◌∙◌, subst}
 use mathlib.Core.Logic.{◌⊎◌, inl, inr}
 use mathlib.Core.Bool.{true, false, ◌&&◌, ◌||◌}
 use mathlib.Core.List.{List, [], ◌∷◌}
-use mathlib.Core.Option.{Option, none, some}
 use Prim.Native.Nat.{ℕ, zero, suc, ◌+◌, ◌≤◌, ◌<◌, ◌^◌}
 use native.Mathlib.Omega.{arith}
 use lib.IntN.{ℤ}
@@ -84,14 +84,14 @@ recorded_by s e xs r = record {
 pub many_is : (p : Past) (s : St) (m n : ℕ) (rs : List Row) (o : Option Command) → (next p s m n rs o).many ≡ p.many + m
 unfolding next
 many_is p s m (suc n) rs o = refl
-many_is p s m zero rs none = refl
-many_is p s m zero rs (some k) = refl
+many_is p s m zero rs None = refl
+many_is p s m zero rs (Some k) = refl
 
 pub ours_is : (p : Past) (s : St) (m n : ℕ) (rs : List Row) (o : Option Command) → (next p s m n rs o).ours ≡ s
 unfolding next
 ours_is p s m (suc n) rs o = refl
-ours_is p s m zero rs none = refl
-ours_is p s m zero rs (some k) = refl
+ours_is p s m zero rs None = refl
+ours_is p s m zero rs (Some k) = refl
 
 -- ---- one call, where the engine is document 01's
 abbrev as_ours : Course → Course
@@ -116,10 +116,10 @@ module _ (p₀ : Course) (so : Sound (as_ours p₀)) (c : Call) where
 
   -- what is asked of the answer, but for its code; and of the state
   abbrev Fine : Answer → Past → Type 0
-  Fine a q = ((k : Command) → command_of ws ≡ some k → a.code ≡ 0 → RightRuns p k (seen a) q) × ((a.code ≡ 0 → ⊥) → (a.val ≡ nothing) × (a.rows ≡ [])) × Held a.st q
+  Fine a q = ((k : Command) → command_of ws ≡ Some k → a.code ≡ 0 → RightRuns p k (seen a) q) × ((a.code ≡ 0 → ⊥) → (a.val ≡ nothing) × (a.rows ≡ [])) × Held a.st q
 
   -- an accepted command k leaves t and v, after j evaluations
-  module _ (k : Command) (e : command_of ws ≡ some k) (t : St) (v : Value) (j : ℕ) (f : Well s t) where
+  module _ (k : Command) (e : command_of ws ≡ Some k) (t : St) (v : Value) (j : ℕ) (f : Well s t) where
     abbrev rs : List Row
     rs = t.log
 
@@ -243,8 +243,8 @@ module _ (p₀ : Course) (so : Sound (as_ours p₀)) (c : Call) where
   accepts : (o : Option Command) → command_of ws ≡ o → NoneHolds (table true (sight_of s c.rows) o) → Well s (perform_any (with_log s []) o).st → p.many + in_perform_any (with_log s []) o < 2 ^ 64
       → let a = accepted (perform_any (with_log s []) o) in let q = next p a.st (in_perform_any (with_log s []) o) 0 a.rows o in Sound (record { st = a.st; past = q }) × Fine a q
   unfolding perform_any in_perform_any next table unknown
-  accepts none e h f few = false≢true (sym (h 1))
-  accepts (some k) e h f few =
+  accepts None e h f few = false≢true (sym (h 1))
+  accepts (Some k) e h f few =
       let y = so.cycle in
       let r = stepped (as_ours p₀) so c.rows k h (omega arith) in
       let d = perform (with_log s []) k in

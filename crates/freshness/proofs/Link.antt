@@ -1,9 +1,9 @@
 -- V1: a link made by a read inside an evaluation of u. The clauses stay, since u is exempt; the links up to the cursor are what was read. Assumes nothing.
+use Rattle.std.specs.Prelude.{Option, None, Some}
 use mathlib.Core.Path.{◌≡◌, refl, sym, ap, ◌∙◌, subst}
 use mathlib.Core.Logic.{◌⊎◌, inl, inr}
 use mathlib.Core.Bool.{Bool, true, false, ◌&&◌}
 use mathlib.Core.List.{List, [], ◌∷◌, ◌++◌}
-use mathlib.Core.Option.{Option, none, some}
 use Prim.Native.Nat.{ℕ, ◌≤◌, ◌<◌}
 use native.Mathlib.Omega.{arith}
 use lib.Dec.{eqb}
@@ -79,16 +79,16 @@ in_one n ms m i = in_cases n ms (m ∷ []) i inl (λ j. last j)
     last (inl e) = inr e
 
 -- the last of a list is in it
-last_in : (xs : List ℕ) (l : ℕ) → last_of xs ≡ some l → In l xs
+last_in : (xs : List ℕ) (l : ℕ) → last_of xs ≡ Some l → In l xs
 last_in [] l e = none_some e
 last_in (x ∷ xs) l e = go (last_of xs) (λ z. last_in xs l z) e
   where
-    go : (o : Option ℕ) → (o ≡ some l → In l xs) → (elim o as (λ (z : Option ℕ). Option ℕ) [ none ↦ some x | some y ↦ some y ]) ≡ some l → In l (x ∷ xs)
-    go none f q = inl (sym (same_some q))
-    go (some y) f q = inr (f q)
+    go : (o : Option ℕ) → (o ≡ Some l → In l xs) → (elim o as (λ (z : Option ℕ). Option ℕ) [ None ↦ Some x | Some y ↦ Some y ]) ≡ Some l → In l (x ∷ xs)
+    go None f q = inl (sym (same_some q))
+    go (Some y) f q = inr (f q)
 
 module _ (dn rs : List ℕ) (dep ver : ℕ → ℕ) (start n v : ℕ) (ns : List ℕ) (r : Evaluated dn rs dep ver start ns) (late : start ≤ v) where
-  -- rules 1 and 3: some link up to the cursor goes to n
+  -- rules 1 and 3: Some link up to the cursor goes to n
   again : (l : ℕ) → In l dn → dep l ≡ n → Evaluated dn rs dep ver start (ns ++ n ∷ [])
   again l i e = record {
     covers = λ d j. elim (in_one d ns n j) [ inl k ↦ r.covers d k | inr q ↦ record { slot = l; within = i; to = e ∙ sym q } ];
@@ -123,8 +123,8 @@ module _ (g : Given) (s : St) (n u v start : ℕ) (ns : List ℕ) (o : Slots g s
   dead l k ls e j q = clash (ap s.live (sym q) ∙ (o.deps_live k u j).0) (o.free_not_live l (subst (In l) (sym e) (inl refl))).0
 
   rule1 : (x : Option ℕ) → last_of (s.done u) ≡ x → goes_to s x n ≡ true → Goal s
-  rule1 none a e = false≢true e
-  rule1 (some l) a e = again (s.done u) (s.rest u) s.dep s.ver start n v ns r late l (last_in (s.done u) l a) (eqb-true (s.dep l) n e)
+  rule1 None a e = false≢true e
+  rule1 (Some l) a e = again (s.done u) (s.rest u) s.dep s.ver start n v ns r late l (last_in (s.done u) l a) (eqb-true (s.dep l) n e)
 
   rule2 : (ls : List ℕ) → s.rest u ≡ ls → goes_to s (head_of ls) n ≡ true → Goal (renew s u v ls)
   unfolding renew
@@ -138,8 +138,8 @@ module _ (g : Given) (s : St) (n u v start : ℕ) (ns : List ℕ) (o : Slots g s
       (subst (λ (x : List ℕ). Evaluated (s.done u ++ l ∷ []) x s.dep (up s.ver l v) start (ns ++ n ∷ [])) (sym (up_same s.rest u ls)) m)
 
   rule3 : (x : Option ℕ) → last_of (s.subs n) ≡ x → is_from s x u v ≡ true → Goal s
-  rule3 none a e = false≢true e
-  rule3 (some l) a e =
+  rule3 None a e = false≢true e
+  rule3 (Some l) a e =
       let w = o.subs_live l n (last_in (s.subs n) l a) in
       let hv = eqb-true (s.ver l) v (and_left (eqb (s.ver l) v) (eqb (s.sub l) u) e) in
       let hu = eqb-true (s.sub l) u (and_right (eqb (s.ver l) v) (eqb (s.sub l) u) e) in

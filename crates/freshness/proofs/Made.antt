@@ -1,9 +1,9 @@
 -- V6: a new node keeps the clauses; a new effect runs at once, over the fresh values. Assumes nothing.
+use Rattle.std.specs.Prelude.{Option, None, Some}
 use mathlib.Core.Path.{◌≡◌, refl, sym, ap, ◌∙◌, subst}
 use mathlib.Core.Logic.{inl, inr}
 use mathlib.Core.Bool.{true, false}
 use mathlib.Core.List.{List, [], ◌∷◌, ◌++◌}
-use mathlib.Core.Option.{Option, none, some}
 use Prim.Native.Nat.{ℕ, suc, ◌+◌, ◌≤◌, ◌<◌}
 use native.Mathlib.Omega.{arith}
 use lib.Dec.{eqb}
@@ -151,17 +151,17 @@ module _ (s : St) (w : WellFormed s) (k : Kind) (t : Tree) (b : Named) (v : Valu
     }
 
   -- with its owner's link
-  pub owned_keeps : (o : Option ℕ) (fits : Fits s k t o) → ((q : ℕ) → o ≡ some q → readable k ≡ false) → Inv (given (node s k t o b v)) (node s k t o b v).pend ρ (also nobody n) (also nobody n) (owned (node s k t o b v) n o)
-  owned_keeps none fits h = new_keeps none fits
-  owned_keeps (some q) fits h =
+  pub owned_keeps : (o : Option ℕ) (fits : Fits s k t o) → ((q : ℕ) → o ≡ Some q → readable k ≡ false) → Inv (given (node s k t o b v)) (node s k t o b v).pend ρ (also nobody n) (also nobody n) (owned (node s k t o b v) n o)
+  owned_keeps None fits h = new_keeps None fits
+  owned_keeps (Some q) fits h =
       let ok = fits.owner q refl in
       let lo = ok.0 in
-      owned_link_lem (given (node s k t (some q) b v)) (node s k t (some q) b v).pend ρ (also nobody n) (also nobody n) (node s k t (some q) b v) n q
-      (ap readable (up_same s.kind n k) ∙ h q refl) (λ z. clash (ap readable (sym (up_other s.kind n k q (λ y. omega arith)) ∙ z)) ok.1) (new_keeps (some q) fits)
+      owned_link_lem (given (node s k t (Some q) b v)) (node s k t (Some q) b v).pend ρ (also nobody n) (also nobody n) (node s k t (Some q) b v) n q
+      (ap readable (up_same s.kind n k) ∙ h q refl) (λ z. clash (ap readable (sym (up_other s.kind n k q (λ y. omega arith)) ∙ z)) ok.1) (new_keeps (Some q) fits)
       (λ l j. (w.lists.free_not_live l j).0)
 
   -- a node that is no effect, and no computed with a value, asks nothing more
-  pub plain_keeps : (o : Option ℕ) (fits : Fits s k t o) → ((q : ℕ) → o ≡ some q → readable k ≡ false) → (k ≡ effect → ⊥) → (k ≡ computed → b.mutable ≡ false) → Inv (given (node s k t o b v)) (node s k t o b v).pend ρ nobody nobody (owned (node s k t o b v) n o)
+  pub plain_keeps : (o : Option ℕ) (fits : Fits s k t o) → ((q : ℕ) → o ≡ Some q → readable k ≡ false) → (k ≡ effect → ⊥) → (k ≡ computed → b.mutable ≡ false) → Inv (given (node s k t o b v)) (node s k t o b v).pend ρ nobody nobody (owned (node s k t o b v) n o)
   plain_keeps o fits h ne nm =
       let x = owned (node s k t o b v) n o in
       let m = made s w k t b v calm o fits h in
@@ -190,8 +190,8 @@ module _ (s : St) (w : WellFormed s) (k : Kind) (t : Tree) (b : Named) (v : Valu
 
 -- an owner's link leaves flags, values, gone marks and the cycle alone
 pub owned_quiet : (s : St) (n : ℕ) (o : Option ℕ) → Quiet s (owned s n o)
-owned_quiet s n none = record { fl = refl; sto = refl; cycle = refl; gone = refl }
-owned_quiet s n (some q) = link_quiet s n q 0
+owned_quiet s n None = record { fl = refl; sto = refl; cycle = refl; gone = refl }
+owned_quiet s n (Some q) = link_quiet s n q 0
 
 -- ---- a new effect
 pub effect_fresh : (s : St) (w : WellFormed s) (ρ : Records) → Inv (given s) s.pend ρ nobody nobody s → (o : Option ℕ) (t : Tree) (fits : Fits s effect t o) → s.cycle + in_new_effect s o t < limit

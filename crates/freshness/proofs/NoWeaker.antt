@@ -1,8 +1,8 @@
 -- Demand 3 over lists leaves no freedom below 2^64 evaluations: what is asked of a call is kept by one reply, and an engine that keeps it on any history replies as document 01's does, and leaves its state. Assumes nothing.
+use Rattle.std.specs.Prelude.{Option, None, Some}
 use mathlib.Core.Path.{◌≡◌, refl, sym, ap, ap₂, ◌∙◌, subst}
 use mathlib.Core.Bool.{true}
 use mathlib.Core.List.{List, [], ◌∷◌, ◌++◌}
-use mathlib.Core.Option.{Option, none, some}
 use Prim.Native.Nat.{ℕ, zero, suc, ◌+◌, ◌<◌, ◌^◌}
 use native.Mathlib.Omega.{arith}
 use Rattle.values.specs.declared.Value.{Value}
@@ -57,8 +57,8 @@ record SameFresh (p q : Past) : Type 0 where
 same_fresh : (p : Past) (s : St) (m n : ℕ) (rs qs : List Row) (o : Option Command) → SameFresh (next p s m n rs o) (next p s m n qs o)
 unfolding next
 same_fresh p s m (suc n) rs qs o = record { form = refl; values = refl }
-same_fresh p s m zero rs qs none = record { form = refl; values = refl }
-same_fresh p s m zero rs qs (some k) =
+same_fresh p s m zero rs qs None = record { form = refl; values = refl }
+same_fresh p s m zero rs qs (Some k) =
     let g = changed k p.nodes in
     let f = ran_form g rs ∙ sym (ran_form g qs) in
     let d = ran_kind g rs ∙ sym (ran_kind g qs) in

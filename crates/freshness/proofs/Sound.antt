@@ -1,8 +1,8 @@
 -- What holds between commands, and what a command leaves. Assumes nothing.
+use Rattle.std.specs.Prelude.{Option, None, Some}
 use mathlib.Core.Path.{◌≡◌, refl, sym, ap, ◌∙◌}
 use mathlib.Core.Bool.{Bool, true, false, ◌&&◌, ◌||◌}
 use mathlib.Core.List.{List, [], ◌∷◌}
-use mathlib.Core.Option.{Option, none, some}
 use Prim.Native.Nat.{ℕ, suc, ◌+◌, ◌≤◌, ◌<◌}
 use native.Mathlib.Omega.{arith}
 use lib.Dec.{eqb}
@@ -88,8 +88,8 @@ and_first false b y = y
 
 -- an owner's link leaves the log and the depth alone
 pub owned_fixed : (s : St) (n : ℕ) (o : Option ℕ) → fixed (owned s n o) ≡ fixed s
-owned_fixed s n none = refl
-owned_fixed s n (some q) = (link_still s n q 0).same
+owned_fixed s n None = refl
+owned_fixed s n (Some q) = (link_still s n q 0).same
 
 -- a first run leaves nodes and depth alone
 pub evaluated_fixed : (x : St) (n : ℕ) → lasting (set_fl (logged (evaluate x n) n) n f2) ≡ lasting x

@@ -1,9 +1,9 @@
 -- Engines that are not document 01's, and fail demand 3: each on a history of at most eight calls. Assumes nothing.
+use Rattle.std.specs.Prelude.{Option, None, Some}
 use mathlib.Core.Path.{◌≡◌, refl, sym, ap, ◌∙◌}
 use mathlib.Core.Logic.{inl, inr}
 use mathlib.Core.Bool.{Bool, true, false, not, ◌&&◌}
 use mathlib.Core.List.{List, [], ◌∷◌, ◌++◌}
-use mathlib.Core.Option.{Option, none, some}
 use Prim.Native.Nat.{ℕ, zero, suc, pred}
 use native.Mathlib.Omega.{arith}
 use lib.Dec.{eqb}
@@ -168,8 +168,8 @@ lies s c = let a = meant s c in answers a.code a.val (silent a.rows) a
 
 -- answers a read by the value stored before it
 abbrev stored : St → ℕ → Option Command → Value
-stored s zero none = nothing
-stored s zero (some k) = returned s.size s.sto k
+stored s zero None = nothing
+stored s zero (Some k) = returned s.size s.sto k
 stored s (suc r) o = nothing
 
 abbrev stale : Engine

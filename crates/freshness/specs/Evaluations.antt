@@ -1,6 +1,5 @@
 -- How many evaluations an operation makes: the counts of `meaning`, first ones and later ones.
-use Rattle.std.specs.Prelude.{true, List, [], ℕ, zero, suc, ℤ}
-use Rattle.std.proofs.Math.Option.{Option, none, some}
+use Rattle.std.specs.Prelude.{true, List, [], ℕ, zero, suc, ℤ, Option, None, Some}
 use Rattle.values.specs.declared.Value.{Value}
 use Rattle.trees.specs.Trees.{Tree}
 use Rattle.meaning.specs.State.{St}
@@ -46,8 +45,8 @@ in_end = count_end true
 
 -- ---- of a call
 unfoldable pub in_perform_any : St → Option Command → ℕ
-in_perform_any s none = 0
-in_perform_any s (some c) = inPerform s c
+in_perform_any s None = 0
+in_perform_any s (Some c) = inPerform s c
 
 unfoldable pub in_answer : ℕ → St → List ℤ → ℕ
 in_answer zero s ws = in_perform_any (with_log s []) (command_of ws)

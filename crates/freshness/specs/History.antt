@@ -1,6 +1,5 @@
 -- Histories: any commands from empty tables, each with a lent log of its own, and what an engine's answers to them tell. The engine is an argument, so that another can be held to the same.
-use Rattle.std.specs.Prelude.{Bool, true, false, ◌&&◌, ◌||◌, List, [], ◌∷◌, ℕ, zero, suc, ◌+◌, pred, ℤ}
-use Rattle.std.proofs.Math.Option.{Option, none, some}
+use Rattle.std.specs.Prelude.{Bool, true, false, ◌&&◌, ◌||◌, List, [], ◌∷◌, ℕ, zero, suc, ◌+◌, pred, ℤ, Option, None, Some}
 use Rattle.values.specs.declared.Value.{Value}
 use Rattle.values.specs.Values.{value, sum}
 use Rattle.meaning.specs.State.{St, Room, Row, nothing, up, empty}
@@ -108,8 +107,8 @@ found_on (suc d) f = f
 -- after an answer of this code with these rows; a refused command leaves all as it was, and so do words that are no command
 unfoldable pub next : Past → St → ℕ → ℕ → List Row → Option Command → Past
 next p s m (suc r) rows o = record { ours = s; many = p.many + m; nodes = p.nodes; depth = p.depth; last = p.last; reads = p.reads; writes = p.writes; found = p.found }
-next p s m zero rows none = record { ours = s; many = p.many + m; nodes = p.nodes; depth = p.depth; last = p.last; reads = p.reads; writes = p.writes; found = p.found }
-next p s m zero rows (some k) = record {
+next p s m zero rows None = record { ours = s; many = p.many + m; nodes = p.nodes; depth = p.depth; last = p.last; reads = p.reads; writes = p.writes; found = p.found }
+next p s m zero rows (Some k) = record {
   ours = s;
   many = p.many + m;
   nodes = ran (changed k p.nodes) rows;

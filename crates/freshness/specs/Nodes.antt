@@ -1,6 +1,5 @@
 -- What accepted commands and their rows tell of the nodes: how many there are, kinds, formulas, owners, and which are gone. No engine's state is asked.
-use Rattle.std.specs.Prelude.{Bool, false, ◌||◌, List, [], ◌∷◌, ℕ, zero, suc, eqb, pos}
-use Rattle.std.proofs.Math.Option.{Option, none}
+use Rattle.std.specs.Prelude.{Bool, false, ◌||◌, List, [], ◌∷◌, ℕ, zero, suc, eqb, pos, Option, None}
 use Rattle.trees.specs.Trees.{Tree, constant}
 use Rattle.meaning.specs.State.{Kind, signal, computed, effect, scope, Row, on, up}
 use Rattle.meaning.specs.Words.{Command, make_signal, make_computed, make_effect, make_scope, set_to, add_to, read_of, dispose_of, batch_start, batch_end, node_of, owner_of, formula_of}
@@ -13,7 +12,7 @@ pub record Nodes : Type 0 where
   pub gone : ℕ → Bool
 
 abbrev pub no_nodes : Nodes
-no_nodes = record { size = 0; kind = λ n. scope; form = λ n. constant (pos 0); owner = λ n. none; gone = λ n. false }
+no_nodes = record { size = 0; kind = λ n. scope; form = λ n. constant (pos 0); owner = λ n. None; gone = λ n. false }
 
 -- a new node has the next number
 abbrev pub with_new : Nodes → Kind → Tree → Option ℕ → Nodes
@@ -39,8 +38,8 @@ disposed g x = record { size = g.size; kind = g.kind; form = g.form; owner = g.o
 
 -- what the command itself does
 unfoldable pub changed : Command → Nodes → Nodes
-changed (make_signal v) g = with_new g signal (constant (pos 0)) none
-changed (make_computed cs) g = with_new g computed (formula_of cs) none
+changed (make_signal v) g = with_new g signal (constant (pos 0)) None
+changed (make_computed cs) g = with_new g computed (formula_of cs) None
 changed (make_effect o cs) g = with_new g effect (formula_of cs) (owner_of o)
 changed (make_scope o) g = with_new g scope (constant (pos 0)) (owner_of o)
 changed (set_to n v) g = g

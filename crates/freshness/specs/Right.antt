@@ -1,6 +1,5 @@
 -- Demand 3: what is asked of each call of a history.
-use Rattle.std.specs.Prelude.{◌≡◌, ◌⊎◌, Bool, true, false, ◌&&◌, List, [], ◌∷◌, ℕ, ◌<◌, ◌^◌, ℤ, pos}
-use Rattle.std.proofs.Math.Option.{some}
+use Rattle.std.specs.Prelude.{◌≡◌, ◌⊎◌, Bool, true, false, ◌&&◌, List, [], ◌∷◌, ℕ, ◌<◌, ◌^◌, ℤ, pos, Some}
 use Rattle.values.specs.declared.Value.{Value}
 use Rattle.values.specs.Values.{value}
 use Rattle.trees.specs.Trees.{Tree, worth}
@@ -91,7 +90,7 @@ pub record Right (p : Past) (c : Call) (a : Reply) (q : Past) : Type 0 where
   pub code : a.code ≡ (meant p.ours c).code  -- document 01's refusals
   -- and its order. The demand's own words fix who runs among the effects that are live after a flush; who runs among those that go in it, and the order, hang on the queue, which demand 2 fixes
   pub order : SameRuns a.rows (meant p.ours c).rows
-  pub accepted : (k : Command) → command_of c.words ≡ some k → a.code ≡ 0 → RightRuns p k a q
+  pub accepted : (k : Command) → command_of c.words ≡ Some k → a.code ≡ 0 → RightRuns p k a q
   pub refused : (a.code ≡ 0 → ⊥) → (a.val ≡ nothing) × (a.rows ≡ [])
 
 -- replies to calls, whoever gave them: each is right after those before it, so long as there were fewer than 2 ^ 64 evaluations

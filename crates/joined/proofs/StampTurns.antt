@@ -1,4 +1,5 @@
 -- The stamps, one cell and one node at a time. Assumes nothing.
+use Rattle.std.specs.Prelude.{Option, Some, None}
 use mathlib.Core.Path.{◌≡◌, refl, sym, ap, ◌∙◌}
 use mathlib.Core.Bool.{true, false}
 use mathlib.Core.List.{List, [], ◌∷◌}
@@ -8,8 +9,6 @@ use native.Mathlib.Numerals.{add-one}
 use lib.IntN.{ℤ}
 use lib.ListN.{length, set}
 use Rattle.primitive.specs.Rows.{field}
-use Rattle.trees.specs.declared.cells.Number.{Number}
-use Rattle.trees.specs.declared.cells.Number.TheVariants.{Is, None}
 use Rattle.trees.specs.Cells.{name_of, cell_at, or_else}
 use Rattle.trees.specs.Names.{named}
 use Rattle.trees.proofs.CellLaws.{cell_out}
@@ -25,11 +24,11 @@ unfolding is_read_link
 read_most t l x r e = omega (arith, e, bit_le (readable_in t (field 8 l x 1)))
 
 module _ (c : List ℤ) (s : List ℕ) (v i : ℕ) where
-  pub cell_none : {r : Number} → r ≡ name_of (cell_at c i) → r ≡ None → s ≡ stamp_cell c s v i
+  pub cell_none : {r : Option ℕ} → r ≡ name_of (cell_at c i) → r ≡ None → s ≡ stamp_cell c s v i
   unfolding stamp_cell named stamp
   cell_none e f = rw (sym e ∙ f)
 
-  pub cell_some : (u : List ℕ) (m : ℕ) {r : Number} → r ≡ name_of (cell_at c i) → r ≡ Is m → u ≡ set s m v → u ≡ stamp_cell c s v i
+  pub cell_some : (u : List ℕ) (m : ℕ) {r : Option ℕ} → r ≡ name_of (cell_at c i) → r ≡ Some m → u ≡ set s m v → u ≡ stamp_cell c s v i
   unfolding stamp_cell named stamp
   cell_some u m e f g = rw (sym e ∙ f) g
 
@@ -44,9 +43,9 @@ module _ (c : List ℤ) (s : List ℕ) (v i : ℕ) where
       let z : suc k - 1 ≡ k = omega arith in
       rw (e, z, add-one) (at (name_of (cell_at c i)) (named c k (suc i)))
     where
-      at : (x : Number) (ns : List ℕ) → stamp s v (or_else x ns (λ (n : ℕ). n ∷ ns)) ≡ stamp (stamp s v (or_else x [] (λ (n : ℕ). n ∷ []))) v ns
+      at : (x : Option ℕ) (ns : List ℕ) → stamp s v (or_else x ns (λ (n : ℕ). n ∷ ns)) ≡ stamp (stamp s v (or_else x [] (λ (n : ℕ). n ∷ []))) v ns
       at None ns = refl
-      at (Is n) ns = refl
+      at (Some n) ns = refl
 
 -- past the end no cell names anything
 past : (c : List ℤ) (k i : ℕ) → length c / 2 ≤ i → named c k i ≡ []

@@ -1,4 +1,5 @@
 -- The ways through a function or one turn of a loop, by what the code finds. Assumes nothing.
+use Rattle.std.specs.Prelude.{Some}
 use mathlib.Core.Path.{◌≡◌, refl, sym, ap, ◌∙◌}
 use mathlib.Core.Bool.{Bool, true, false}
 use mathlib.Core.List.{List}
@@ -14,7 +15,6 @@ use Rattle.primitive.specs.Rows.{field}
 use Rattle.resting.specs.Depends.{owner_is, only_to, owned_on}
 use Rattle.lists.specs.Once.{spend}
 use Rattle.lists.proofs.SumLaws.{clash}
-use Rattle.lists.specs.declared.Rest.TheVariants.{Left}
 
 -- ---- a word that was opened
 pub at_slot : (w x : ℕ) {r : Slot} → r ≡ slot_of w → r ≡ At x → w ≡ suc x
@@ -50,10 +50,10 @@ module _ (l : List ℕ) (owner subs : ℕ) where
   owned_once o x sub e f n g = rw (e, f, eq-eqb (field 8 l x 4) 0 n, g)
 
 -- ---- the budget of the queue
-pub pay_one : (l : Bool) (b : ℕ) → l ≡ true → (b ≡ 0 → ⊥) → Left (b - 1) ≡ spend l b
+pub pay_one : (l : Bool) (b : ℕ) → l ≡ true → (b ≡ 0 → ⊥) → Some (b - 1) ≡ spend l b
 pay_one true zero e h = absurd (h refl)
-pay_one true (suc b) e h = ap Left (omega arith)
+pay_one true (suc b) e h = ap Some (omega arith)
 pay_one false b e h = absurd (clash false e refl)
 
-pub pay_nothing : (l : Bool) (b : ℕ) → l ≡ false → Left b ≡ spend l b
+pub pay_nothing : (l : Bool) (b : ℕ) → l ≡ false → Some b ≡ spend l b
 pay_nothing l b e = rw e

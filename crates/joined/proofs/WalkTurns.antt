@@ -1,4 +1,5 @@
 -- One turn of each walk along the lists, by what the code finds. Assumes nothing.
+use Rattle.std.specs.Prelude.{Some, None}
 use mathlib.Core.Path.{◌≡◌, refl, sym, ap, ◌∙◌}
 use mathlib.Core.Bool.{Bool, true, false}
 use mathlib.Core.List.{List}
@@ -11,7 +12,6 @@ use Rattle.primitive.specs.declared.slots.Slot.{Slot}
 use Rattle.primitive.specs.declared.slots.Slot.TheVariants.{At, Nothing}
 use Rattle.lists.specs.Walk.{runs}
 use Rattle.lists.specs.Each.{along}
-use Rattle.lists.specs.declared.Rest.TheVariants.{Left, Bad}
 use Rattle.lists.proofs.WalkLaws.{run_done, run_wrong, run_out, run_bad, run_more, run_blind}
 use Rattle.lists.proofs.EachLaws.{along_end, along_bad, along_more}
 use Rattle.resting.specs.declared.linked.Side.{Side}
@@ -19,19 +19,19 @@ use Rattle.resting.specs.Linked.{fits, spare, walk, walks, frees}
 use Rattle.joined.proofs.TurnLaws.{at_slot, at_nothing}
 
 module _ (l : List ℕ) (s : Side) (n tail b p w : ℕ) where
-  pub walk_done : w ≡ 0 → p ≡ tail → walk l s n tail b p w ≡ Left b
+  pub walk_done : w ≡ 0 → p ≡ tail → walk l s n tail b p w ≡ Some b
   unfolding walk
   walk_done e f = run_done _ _ _ b p w e (eq-eqb p tail f)
 
-  pub walk_wrong : w ≡ 0 → (p ≡ tail → ⊥) → walk l s n tail b p w ≡ Bad
+  pub walk_wrong : w ≡ 0 → (p ≡ tail → ⊥) → walk l s n tail b p w ≡ None
   unfolding walk
   walk_wrong e f = run_wrong _ _ _ b p w e (ne_eqb p tail f)
 
-  pub walk_out : (w ≡ 0 → ⊥) → b ≡ 0 → walk l s n tail b p w ≡ Bad
+  pub walk_out : (w ≡ 0 → ⊥) → b ≡ 0 → walk l s n tail b p w ≡ None
   unfolding walk
   walk_out h e = run_out _ _ _ b p w h e
 
-  pub walk_bad : (w ≡ 0 → ⊥) → (b ≡ 0 → ⊥) → fits l s n p (w - 1) ≡ false → walk l s n tail b p w ≡ Bad
+  pub walk_bad : (w ≡ 0 → ⊥) → (b ≡ 0 → ⊥) → fits l s n p (w - 1) ≡ false → walk l s n tail b p w ≡ None
   unfolding walk
   walk_bad h g e = run_bad _ (λ (p x : ℕ). fits l s n p x) _ b p w h g e
 
@@ -41,15 +41,15 @@ module _ (l : List ℕ) (s : Side) (n tail b p w : ℕ) where
   walk_more v h g e q = rw q (run_more _ (λ (p x : ℕ). fits l s n p x) _ b p w h g e)
 
 module _ (l : List ℕ) (b w : ℕ) where
-  pub frees_done : w ≡ 0 → frees l b w ≡ Left b
+  pub frees_done : w ≡ 0 → frees l b w ≡ Some b
   unfolding frees
   frees_done e = run_done _ _ _ b 0 w e refl
 
-  pub frees_out : (w ≡ 0 → ⊥) → b ≡ 0 → frees l b w ≡ Bad
+  pub frees_out : (w ≡ 0 → ⊥) → b ≡ 0 → frees l b w ≡ None
   unfolding frees
   frees_out h e = run_out _ _ _ b 0 w h e
 
-  pub frees_bad : (w ≡ 0 → ⊥) → (b ≡ 0 → ⊥) → spare l (w - 1) ≡ false → frees l b w ≡ Bad
+  pub frees_bad : (w ≡ 0 → ⊥) → (b ≡ 0 → ⊥) → spare l (w - 1) ≡ false → frees l b w ≡ None
   unfolding frees
   frees_bad h g e = run_bad _ (λ (p x : ℕ). spare l x) _ b 0 w h g e
 
@@ -58,17 +58,17 @@ module _ (l : List ℕ) (b w : ℕ) where
   frees_more v h g e q = rw q (run_more _ (λ (p x : ℕ). spare l x) _ b 0 w h g e ∙ run_blind _ (spare l) (b - 1) w 0 _)
 
 module _ (t l : List ℕ) (s : Side) where
-  pub walks_end : (n b : ℕ) → n ≤ 0 → walks t l s n b ≡ Left b
+  pub walks_end : (n b : ℕ) → n ≤ 0 → walks t l s n b ≡ Some b
   unfolding walks runs
   walks_end zero b h = refl
   walks_end (suc n) b h = absurd (omega arith)
 
-  pub walks_bad : (n b : ℕ) → 0 < n → walk l s (n - 1) (field 16 t (n - 1) s.tail) b 0 (field 16 t (n - 1) s.head) ≡ Bad → walks t l s n b ≡ Bad
+  pub walks_bad : (n b : ℕ) → 0 < n → walk l s (n - 1) (field 16 t (n - 1) s.tail) b 0 (field 16 t (n - 1) s.head) ≡ None → walks t l s n b ≡ None
   unfolding walks runs walk
   walks_bad zero b h e = absurd (omega arith)
   walks_bad (suc n) b h e = let m : suc n - 1 ≡ n = omega arith in rw (rw m at e)
 
-  pub walks_more : (n b m : ℕ) → 0 < n → walk l s (n - 1) (field 16 t (n - 1) s.tail) b 0 (field 16 t (n - 1) s.head) ≡ Left m
+  pub walks_more : (n b m : ℕ) → 0 < n → walk l s (n - 1) (field 16 t (n - 1) s.tail) b 0 (field 16 t (n - 1) s.head) ≡ Some m
       → walks t l s n b ≡ walks t l s (n - 1) m
   unfolding walks runs walk
   walks_more zero b m h e = absurd (omega arith)

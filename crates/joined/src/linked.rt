@@ -3,7 +3,6 @@ ghost use Rattle.std.specs.Prelude.{◌≡◌};
 ghost use Rattle.resting.specs.Linked.{is_live_slot, fits, spare, walk, walks, frees, linked_in};
 
 use counts::room;
-use lists::Rest;
 use primitive::rows::{
     DEP, DEPS, DEPS_TAIL, FREE, LINK, LIVE, NEXT_DEP, NEXT_SUB, NODE, PREV_DEP, PREV_SUB, SUB,
     SUBS, SUBS_TAIL,
@@ -41,7 +40,7 @@ fn spare(links: &[u64], x: u64) -> bool
 }
 
 // One list of node n, from the word w: what it leaves of the budget.
-fn walk(links: &[u64], side: Side, n: u64, tail: u64, budget: u64, w: u64) -> Rest
+fn walk(links: &[u64], side: Side, n: u64, tail: u64, budget: u64, w: u64) -> Option<u64>
     ensures { result ≡ walk links.now side n tail budget 0 w }
 {
     let mut left = budget;
@@ -49,24 +48,24 @@ fn walk(links: &[u64], side: Side, n: u64, tail: u64, budget: u64, w: u64) -> Re
     let mut at = w;
     while at != 0 {
         if left == 0 {
-            return Rest::Bad;
+            return None;
         }
         let x = at - 1;
         if !fits(links, side, n, p, x) {
-            return Rest::Bad;
+            return None;
         }
         p = at;
         at = words::get(links, LINK, x, side.next);
         left -= 1;
     }
     if p == tail {
-        return Rest::Left(left);
+        return Some(left);
     }
-    Rest::Bad
+    None
 }
 
 // The lists of the nodes below count, on one budget.
-fn walks(nodes: &[u64], links: &[u64], side: Side, count: u64, budget: u64) -> Rest
+fn walks(nodes: &[u64], links: &[u64], side: Side, count: u64, budget: u64) -> Option<u64>
     ensures { result ≡ walks nodes.now links.now side count budget }
 {
     let mut left = budget;
@@ -75,32 +74,32 @@ fn walks(nodes: &[u64], links: &[u64], side: Side, count: u64, budget: u64) -> R
         n -= 1;
         let head = words::get(nodes, NODE, n, side.head);
         let tail = words::get(nodes, NODE, n, side.tail);
-        let Rest::Left(m) = walk(links, side, n, tail, left, head) else {
-            return Rest::Bad;
+        let Some(m) = walk(links, side, n, tail, left, head) else {
+            return None;
         };
         left = m;
     }
-    Rest::Left(left)
+    Some(left)
 }
 
 // The free list from the word w.
-fn frees(links: &[u64], budget: u64, w: u64) -> Rest
+fn frees(links: &[u64], budget: u64, w: u64) -> Option<u64>
     ensures { result ≡ frees links.now budget w }
 {
     let mut left = budget;
     let mut at = w;
     while at != 0 {
         if left == 0 {
-            return Rest::Bad;
+            return None;
         }
         let x = at - 1;
         if !spare(links, x) {
-            return Rest::Bad;
+            return None;
         }
         at = words::get(links, LINK, x, NEXT_DEP);
         left -= 1;
     }
-    Rest::Left(left)
+    Some(left)
 }
 
 // The subscriber lists leave some slots, the dependency lists as many, and these are just the free ones.
@@ -124,16 +123,16 @@ pub fn linked(nodes: &[u64], links: &[u64]) -> bool
     let slots = room::slot_room(links);
     let count = room::counted(nodes);
     let head = words::at(links, FREE);
-    let Rest::Left(m) = walks(nodes, links, subscribers, count, slots) else {
+    let Some(m) = walks(nodes, links, subscribers, count, slots) else {
         return false;
     };
-    let Rest::Left(d) = walks(nodes, links, dependencies, count, slots) else {
+    let Some(d) = walks(nodes, links, dependencies, count, slots) else {
         return false;
     };
     if d != m {
         return false;
     }
-    let Rest::Left(f) = frees(links, m, head) else {
+    let Some(f) = frees(links, m, head) else {
         return false;
     };
     f == 0

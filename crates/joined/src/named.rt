@@ -10,7 +10,6 @@ use formula::legal;
 use primitive::rows::{CELLS, DEP, DEPS, KIND, LINK, NEXT_DEP, NODE, START};
 use primitive::slots::Slot;
 use primitive::{slots, words};
-use trees::cells::Number;
 
 // Words of a test's own memory: one for each node that tables may have.
 pub const SEEN: usize = 1024;
@@ -48,7 +47,7 @@ pub fn read_links(nodes: &[u64], links: &[u64], w: u64) -> u64
 fn stamp_cell(cells: &[i64], seen: &mut [u64], v: u64, i: u64)
     ensures { seen.new ≡ stamp_cell cells.now seen.old v i }
 {
-    let Number::Is(m) = name(cell_at(cells, i)) else {
+    let Some(m) = name(cell_at(cells, i)) else {
         return;
     };
     words::put(seen, m, v);

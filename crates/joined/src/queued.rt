@@ -8,7 +8,6 @@ ghost use Rattle.resting.specs.Queued.{waits_on, may_wait, lives, due, scanned, 
 
 use crate::named::SEEN;
 use counts::room;
-use lists::Rest;
 use primitive::rows::{DEPTH, EFFECT, FLAGS, GONE, KIND, NODE, QUEUE};
 use primitive::words;
 
@@ -46,20 +45,20 @@ fn lives(nodes: &[u64], e: u64) -> bool
 }
 
 // One off the budget where it counts.
-fn pay(live: bool, budget: u64) -> Rest
+fn pay(live: bool, budget: u64) -> Option<u64>
     ensures { result ≡ spend live budget }
 {
     if live {
         if budget == 0 {
-            return Rest::Bad;
+            return None;
         }
-        return Rest::Left(budget - 1);
+        return Some(budget - 1);
     }
-    Rest::Left(budget)
+    Some(budget)
 }
 
 // The entries in order, each marked as it is met, the live ones taken off the budget.
-fn scan(nodes: &[u64], seen: &mut [u64], budget: u64) -> Rest
+fn scan(nodes: &[u64], seen: &mut [u64], budget: u64) -> Option<u64>
     ensures { result ≡ scanned nodes.now seen.old (queue_of nodes.now) budget }
 {
     let n = queue::length(nodes);
@@ -68,20 +67,20 @@ fn scan(nodes: &[u64], seen: &mut [u64], budget: u64) -> Rest
     while i < n {
         let e = queue::entry(nodes, i);
         if !may_wait(nodes, e) {
-            return Rest::Bad;
+            return None;
         }
         if words::at(seen, e) != 0 {
-            return Rest::Bad;
+            return None;
         }
         let live = lives(nodes, e);
-        let Rest::Left(m) = pay(live, left) else {
-            return Rest::Bad;
+        let Some(m) = pay(live, left) else {
+            return None;
         };
         left = m;
         words::put(seen, e, 1);
         i += 1;
     }
-    Rest::Left(left)
+    Some(left)
 }
 
 // 1 for a live effect without WATCHING, 0 for another.
@@ -134,7 +133,7 @@ pub fn queued(nodes: &[u64]) -> bool
     }
     let waiting = count_due(nodes);
     let mut seen = [0u64; SEEN];
-    let Rest::Left(m) = scan(nodes, &mut seen, waiting) else {
+    let Some(m) = scan(nodes, &mut seen, waiting) else {
         return false;
     };
     m == 0

@@ -1,4 +1,5 @@
 -- The lists of all nodes, one after the other on one budget: the walk agrees with a chain for each node. Assumes nothing.
+use Rattle.std.specs.Prelude.{Option, Some, None}
 use mathlib.Core.Path.{◌≡◌, refl, sym, ap, ◌∙◌, subst}
 use mathlib.Core.Bool.{Bool, true, false}
 use mathlib.Core.List.{List}
@@ -10,12 +11,10 @@ use borrow.Author.Tests.{eqb-true, eqb-false}
 use Rattle.lists.specs.Sum.{sum}
 use Rattle.lists.specs.Walk.{Chain, slots, run, and_then, runs}
 use Rattle.lists.proofs.WalkLaws.{left_same, not_left, sound, complete, decode}
-use Rattle.lists.specs.declared.Rest.{Rest}
-use Rattle.lists.specs.declared.Rest.TheVariants.{Left, Bad}
 
-pub then_left : (r : Rest) (f : ℕ → Rest) {m : ℕ} → and_then r f ≡ Left m → (a : ℕ) × (r ≡ Left a) × (f a ≡ Left m)
-then_left (Left a) f e = (a, refl, e)
-then_left Bad f e = absurd (not_left e)
+pub then_left : (r : Option ℕ) (f : ℕ → Option ℕ) {m : ℕ} → and_then r f ≡ Some m → (a : ℕ) × (r ≡ Some a) × (f a ≡ Some m)
+then_left (Some a) f e = (a, refl, e)
+then_left None f e = absurd (not_left e)
 
 -- the slots that the lists of the nodes below m have together
 abbrev pub total : (ℕ → ℕ) → (ℕ → ℕ) → ℕ → ℕ → ℕ
@@ -25,7 +24,7 @@ module _ (next : ℕ → ℕ) (ok : ℕ → ℕ → ℕ → Bool) (fin : ℕ →
   abbrev pub ChainOf : ℕ → Type 0
   ChainOf k = Chain next (ok k) (fin k) 0 (head k) (slots next n (head k))
 
-  pub sounds : (N b m : ℕ) → b ≤ n → runs next ok fin head N b ≡ Left m → ((k : ℕ) → k < N → ChainOf k) × (total next head n N + m ≡ b)
+  pub sounds : (N b m : ℕ) → b ≤ n → runs next ok fin head N b ≡ Some m → ((k : ℕ) → k < N → ChainOf k) × (total next head n N + m ≡ b)
   unfolding runs sum
   sounds zero b m l e = (λ k h. absurd (omega arith), omega (arith, left_same e))
   sounds (suc j) b m l e =
@@ -40,10 +39,10 @@ module _ (next : ℕ → ℕ) (ok : ℕ → ℕ → ℕ → Bool) (fin : ℕ →
       at rest top k h true q = subst (λ (i : ℕ). ChainOf i) (sym (eqb-true k j q)) top
       at rest top k h false q = let f : k ≡ j → ⊥ = eqb-false k j q in rest k (omega arith)
 
-  pub completes : (N b : ℕ) → ((k : ℕ) → k < N → ChainOf k) → total next head n N ≤ b → runs next ok fin head N b ≡ Left (b - total next head n N)
+  pub completes : (N b : ℕ) → ((k : ℕ) → k < N → ChainOf k) → total next head n N ≤ b → runs next ok fin head N b ≡ Some (b - total next head n N)
   unfolding runs sum
-  completes zero b c l = ap Left (omega arith)
+  completes zero b c l = ap Some (omega arith)
   completes (suc j) b c l =
       let x = complete next (ok j) (fin j) b 0 (head j) (slots next n (head j)) (c j (omega arith)) (omega arith) in
       let r = completes j (b - length (slots next n (head j))) (λ k h. c k (omega arith)) (omega arith) in
-      rw x (r ∙ ap Left (omega arith))
+      rw x (r ∙ ap Some (omega arith))

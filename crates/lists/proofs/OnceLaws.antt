@@ -1,4 +1,5 @@
 -- "Once" by a table of marks: what the scan of a list means. Assumes nothing.
+use Rattle.std.specs.Prelude.{Some}
 use mathlib.Core.Path.{◌≡◌, refl, sym, ap, ◌∙◌}
 use mathlib.Core.Bool.{Bool, true, false}
 use mathlib.Core.List.{List, [], ◌∷◌}
@@ -16,17 +17,16 @@ use Rattle.lists.proofs.SumLaws.{bit_le, bit_true, bit_false, clash, occ_nil, oc
 use Rattle.lists.proofs.WalkLaws.{left_same, not_left, if_left}
 use Rattle.lists.proofs.Many.{then_left}
 use Rattle.lists.proofs.EachLaws.{both_true, true_both, keep_yes, keep_no, keep_nil, keep_all, keep_is, keep_occ, keep_count}
-use Rattle.lists.specs.declared.Rest.TheVariants.{Left}
 
-spent : (l : Bool) (b c : ℕ) → spend l b ≡ Left c → b ≡ bit l + c
+spent : (l : Bool) (b c : ℕ) → spend l b ≡ Some c → b ≡ bit l + c
 spent true zero c e = absurd (not_left e)
 spent true (suc b) c e = omega (arith, left_same e)
 spent false b c e = omega (arith, left_same e)
 
-spending : (l : Bool) (b : ℕ) → bit l ≤ b → spend l b ≡ Left (b - bit l)
+spending : (l : Bool) (b : ℕ) → bit l ≤ b → spend l b ≡ Some (b - bit l)
 spending true zero h = absurd (omega arith)
-spending true (suc b) h = ap Left (omega arith)
-spending false b h = ap Left (omega arith)
+spending true (suc b) h = ap Some (omega arith)
+spending false b h = ap Some (omega arith)
 
 module _ (ok live : ℕ → Bool) where
   keep_length : (x : ℕ) (xs : List ℕ) → length (keep live (x ∷ xs)) ≡ bit (live x) + length (keep live xs)
@@ -41,7 +41,7 @@ module _ (ok live : ℕ → Bool) where
     pub single : (x : ℕ) → occ x xs ≤ 1
     pub fresh : (x : ℕ) → (get_or s x 0 ≡ 0 → ⊥) → occ x xs ≡ 0
 
-  pub scan_sound : (s xs : List ℕ) (b m : ℕ) → ((x : ℕ) → ok x ≡ true → x < length s) → scan ok live s xs b ≡ Left m
+  pub scan_sound : (s xs : List ℕ) (b m : ℕ) → ((x : ℕ) → ok x ≡ true → x < length s) → scan ok live s xs b ≡ Some m
       → Scanned s xs × (length (keep live xs) + m ≡ b)
   unfolding scan
   scan_sound s [] b m low e = (
@@ -77,15 +77,15 @@ module _ (ok live : ℕ → Bool) where
               omega (arith, occ_cons y x xs, bit_false (eqb y x) (ne_eqb y x n), i.fresh y (λ q. h (sym g ∙ q)))
 
   pub scan_complete : (s xs : List ℕ) (b : ℕ) → ((x : ℕ) → ok x ≡ true → x < length s) → Scanned s xs → length (keep live xs) ≤ b
-      → scan ok live s xs b ≡ Left (b - length (keep live xs))
+      → scan ok live s xs b ≡ Some (b - length (keep live xs))
   unfolding scan
-  scan_complete s [] b low c h = ap Left (omega (arith, ap length (keep_nil live)))
+  scan_complete s [] b low c h = ap Some (omega (arith, ap length (keep_nil live)))
   scan_complete s (x ∷ xs) b low c h =
       let k = keep_length x xs in
       let z = zero_at (eqb (get_or s x 0) 0) refl in
       let r = scan_complete (set s x 1) xs (b - bit (live x)) (λ y g. omega (arith, length-set s x 1, low y g)) rest (omega (arith, k)) in
       let t : both (ok x) (eqb (get_or s x 0) 0) ≡ true = true_both _ _ c.all.0 z in
-      rw (t, spending (live x) b (omega (arith, k)), scan) (r ∙ ap Left (omega (arith, k)))
+      rw (t, spending (live x) b (omega (arith, k)), scan) (r ∙ ap Some (omega (arith, k)))
     where
       here : 1 ≤ occ x (x ∷ xs)
       here = omega (arith, occ_cons x x xs, bit_true (eqb x x) (eq-eqb x x refl))
@@ -123,7 +123,7 @@ module _ (ok live : ℕ → Bool) where
     joined [] a b = tt
     joined (x ∷ xs) a b = (true_both _ _ a.0 b.0, joined xs a.1 b.1)
 
-    pub once_sound : (xs : List ℕ) → scan ok live s xs (count due n) ≡ Left 0
+    pub once_sound : (xs : List ℕ) → scan ok live s xs (count due n) ≡ Some 0
         → All (λ (x : ℕ). ok x ≡ true) xs × ((x : ℕ) → occ x xs ≤ 1) × ((x : ℕ) → x < n → due x ≡ true → occ x xs ≡ 1)
     once_sound xs e =
         let r = scan_sound s xs (count due n) 0 low e in
@@ -142,8 +142,8 @@ module _ (ok live : ℕ → Bool) where
         single_kept y false e xs h = omega (arith, occ_none (λ (z : ℕ). live z ≡ true) y (keep live xs) (keep_is live xs) (λ t. clash (live y) t e))
 
     pub once_complete : (xs : List ℕ) → All (λ (x : ℕ). ok x ≡ true) xs → ((x : ℕ) → occ x xs ≤ 1) → ((x : ℕ) → x < n → due x ≡ true → occ x xs ≡ 1)
-        → scan ok live s xs (count due n) ≡ Left 0
+        → scan ok live s xs (count due n) ≡ Some 0
     once_complete xs a o d =
         let kd = joined (keep live xs) (keep_all live (λ (x : ℕ). ok x ≡ true) xs a) (keep_is live xs) in
         let l = keep_count live due n xs (λ x e. (both_true (ok x) (live x) e).1) (weaken xs a) kd o d in
-        scan_complete s xs (count due n) low (record { all = a; single = o; fresh = λ x h. absurd (h (clear x)) }) (omega (arith, l)) ∙ ap Left (omega (arith, l))
+        scan_complete s xs (count due n) low (record { all = a; single = o; fresh = λ x h. absurd (h (clear x)) }) (omega (arith, l)) ∙ ap Some (omega (arith, l))

@@ -1,4 +1,5 @@
 -- One list: the walk with a budget passes exactly the chains, a chain is what the decoding finds, and it has nothing twice. Assumes nothing.
+use Rattle.std.specs.Prelude.{Option, Some, None}
 use mathlib.Core.Path.{◌≡◌, refl, ap, ◌∙◌, subst}
 use mathlib.Core.Bool.{Bool, true, false}
 use mathlib.Core.List.{List, [], ◌∷◌}
@@ -10,21 +11,19 @@ use borrow.Author.Tests.{eqb-true}
 use Rattle.lists.specs.Sum.{occ, All}
 use Rattle.lists.specs.Walk.{Chain, slots, run}
 use Rattle.lists.proofs.SumLaws.{bit_le, bit_false, occ_nil, occ_cons}
-use Rattle.lists.specs.declared.Rest.{Rest}
-use Rattle.lists.specs.declared.Rest.TheVariants.{Left, Bad}
 
-pub left_same : {a b : ℕ} → Left a ≡ Left b → a ≡ b
+pub left_same : {a b : ℕ} → Some a ≡ Some b → a ≡ b
 left_same e = cc
 
-pub not_left : {a : ℕ} → Bad ≡ Left a → ⊥
+pub not_left : {a : ℕ} → None ≡ Some a → ⊥
 not_left e = let z : ◌≡◌ {A = ℕ} 0 1 = cc in omega arith
 
-pub if_left : (c : Bool) (r : Rest) {m : ℕ} → elim c [ true ↦ r | false ↦ Bad ] ≡ Left m → (c ≡ true) × (r ≡ Left m)
+pub if_left : (c : Bool) (r : Option ℕ) {m : ℕ} → elim c [ true ↦ r | false ↦ None ] ≡ Some m → (c ≡ true) × (r ≡ Some m)
 if_left true r e = (refl, e)
 if_left false r e = absurd (not_left e)
 
 module _ (next : ℕ → ℕ) (ok : ℕ → ℕ → Bool) (fin : ℕ → Bool) where
-  pub run_end : (b p : ℕ) → fin p ≡ true → run next ok fin b p 0 ≡ Left b
+  pub run_end : (b p : ℕ) → fin p ≡ true → run next ok fin b p 0 ≡ Some b
   unfolding run
   run_end zero p e = rw (e, run)
   run_end (suc b) p e = rw (e, run)
@@ -34,12 +33,12 @@ module _ (next : ℕ → ℕ) (ok : ℕ → ℕ → Bool) (fin : ℕ → Bool) w
   run_step b p x e = rw (e, run)
 
   -- the walk passes only chains, and takes the chain's length off its budget
-  pub sound : (b p w m : ℕ) → run next ok fin b p w ≡ Left m → Chain next ok fin p w (slots next b w) × (length (slots next b w) + m ≡ b)
+  pub sound : (b p w m : ℕ) → run next ok fin b p w ≡ Some m → Chain next ok fin p w (slots next b w) × (length (slots next b w) + m ≡ b)
   unfolding run slots
-  sound zero p zero m e = let r = if_left (fin p) (Left zero) e in ((refl, r.0), omega (arith, left_same r.1))
+  sound zero p zero m e = let r = if_left (fin p) (Some zero) e in ((refl, r.0), omega (arith, left_same r.1))
   sound zero p (suc x) m e = absurd (not_left e)
   sound (suc b) p zero m e =
-      let r = if_left (fin p) (Left (suc b)) e in
+      let r = if_left (fin p) (Some (suc b)) e in
       let q : suc b ≡ m = left_same r.1 in
       ((refl, r.0), omega arith)
   sound (suc b) p (suc x) m e =
@@ -48,12 +47,12 @@ module _ (next : ℕ → ℕ) (ok : ℕ → ℕ → Bool) (fin : ℕ → Bool) w
       ((refl, r.0, s.0), omega (arith, s.1))
 
   -- and it passes every chain that its budget reaches
-  pub complete : (b p w : ℕ) (xs : List ℕ) → Chain next ok fin p w xs → length xs ≤ b → run next ok fin b p w ≡ Left (b - length xs)
-  complete b p w [] c l = rw c.0 (run_end b p c.1 ∙ ap Left (omega arith))
+  pub complete : (b p w : ℕ) (xs : List ℕ) → Chain next ok fin p w xs → length xs ≤ b → run next ok fin b p w ≡ Some (b - length xs)
+  complete b p w [] c l = rw c.0 (run_end b p c.1 ∙ ap Some (omega arith))
   complete zero p w (x ∷ xs) c l = absurd (omega arith)
   complete (suc b) p w (x ∷ xs) c l =
       rw c.0
-      (run_step b p x c.1 ∙ complete b (suc x) (next x) xs c.2 (omega arith) ∙ ap Left (omega arith))
+      (run_step b p x c.1 ∙ complete b (suc x) (next x) xs c.2 (omega arith) ∙ ap Some (omega arith))
 
   -- a chain is what the decoding finds, whatever the bound
   pub decode : (b p w : ℕ) (xs : List ℕ) → Chain next ok fin p w xs → length xs ≤ b → slots next b w ≡ xs
@@ -111,20 +110,20 @@ module _ (next : ℕ → ℕ) (ok : ℕ → ℕ → Bool) (fin : ℕ → Bool) w
       at rest false q = omega (arith, occ_cons x y ys, bit_false (eqb x y) q)
 
   -- the ways through one turn of the code, over words
-  pub run_done : (b p w : ℕ) → w ≡ 0 → fin p ≡ true → run next ok fin b p w ≡ Left b
+  pub run_done : (b p w : ℕ) → w ≡ 0 → fin p ≡ true → run next ok fin b p w ≡ Some b
   run_done b p w e f = rw e (run_end b p f)
 
-  pub run_wrong : (b p w : ℕ) → w ≡ 0 → fin p ≡ false → run next ok fin b p w ≡ Bad
+  pub run_wrong : (b p w : ℕ) → w ≡ 0 → fin p ≡ false → run next ok fin b p w ≡ None
   unfolding run
   run_wrong zero p w e f = rw e (rw (f, run))
   run_wrong (suc b) p w e f = rw e (rw (f, run))
 
-  pub run_out : (b p w : ℕ) → (w ≡ 0 → ⊥) → b ≡ 0 → run next ok fin b p w ≡ Bad
+  pub run_out : (b p w : ℕ) → (w ≡ 0 → ⊥) → b ≡ 0 → run next ok fin b p w ≡ None
   unfolding run
   run_out b p zero h e = absurd (h refl)
   run_out b p (suc x) h e = rw e
 
-  pub run_bad : (b p w : ℕ) → (w ≡ 0 → ⊥) → (b ≡ 0 → ⊥) → ok p (w - 1) ≡ false → run next ok fin b p w ≡ Bad
+  pub run_bad : (b p w : ℕ) → (w ≡ 0 → ⊥) → (b ≡ 0 → ⊥) → ok p (w - 1) ≡ false → run next ok fin b p w ≡ None
   unfolding run
   run_bad b p zero h g e = absurd (h refl)
   run_bad zero p (suc x) h g e = absurd (g refl)

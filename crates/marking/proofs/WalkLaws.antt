@@ -1,4 +1,5 @@
 -- The walk of propagate, turn by turn, as the code takes it. Assumes nothing.
+use Rattle.std.specs.Prelude.{Option, Some, None}
 use mathlib.Core.Path.{◌≡◌, refl, sym, ap, subst, ◌∙◌}
 use mathlib.Core.Bool.{true, false}
 use mathlib.Core.List.{List}
@@ -11,8 +12,6 @@ use Rattle.primitive.specs.Slots.{slot_of}
 use Rattle.stack.specs.Stack.{pushed, pushed_len, popped}
 use Rattle.primitive.specs.declared.slots.Slot.{Slot}
 use Rattle.primitive.specs.declared.slots.Slot.TheVariants.{At, Nothing}
-use Rattle.stack.specs.declared.Popped.{Popped}
-use Rattle.stack.specs.declared.Popped.TheVariants.{Top, Empty}
 use Rattle.marking.specs.Fields.{subs, sub, next_sub_of, mutable, has}
 use Rattle.marking.specs.Visits.{visit, after, reached}
 use Rattle.marking.specs.Walks.{Place, place, Rest, below, down, back, along, onward, turn, walked}
@@ -72,34 +71,39 @@ module _ (p : Rest) (L N : List ℕ) where
   along_none w d = rw d
 
   module _ (A : List ℕ) where
-    pub back_end : (len : ℕ) {t : Popped} → t ≡ popped A len → t ≡ Empty → back p L N A len ≡ N
+    pub back_end : (len : ℕ) {t : Option (ℕ × ℕ)} → t ≡ popped A len → t ≡ None → back p L N A len ≡ N
     unfolding back popped
     back_end zero e d = refl
     back_end (suc n) e d = let z : ◌≡◌ {A = ℕ} 0 1 = cc in absurd (omega arith)
 
-    pub back_slot : (len : ℕ) {t : Popped} {w rest x v : ℕ} {o : Slot} → t ≡ popped A len → t ≡ Top w rest → o ≡ slot_of w → o ≡ At x → v ≡ next_sub_of L x
+    pub back_slot : (len : ℕ) {t : Option (ℕ × ℕ)} {w rest x v : ℕ} {o : Slot} → t ≡ popped A len → t ≡ Some (w, rest) → o ≡ slot_of w → o ≡ At x → v ≡ next_sub_of L x
         → back p L N A len ≡ p N (place x v A rest)
     unfolding back popped
     back_slot zero e d u g i = let z : ◌≡◌ {A = ℕ} 0 1 = cc in absurd (omega arith)
     back_slot (suc n) {t} {w} {rest} e d u g i =
-        let a : w ≡ get_or A n 0 = cc in
-        let b : rest ≡ n = cc in
+        let both : ◌≡◌ {A = ℕ × ℕ} (w, rest) (get_or A n 0, n) = cc in
+        let a : w ≡ get_or A n 0 = ap (λ q. q.0) both in
+        let b : rest ≡ n = ap (λ q. q.1) both in
         rw (← a, ← u, g, back, ← i, b)
 
-    pub back_none : (len : ℕ) {t : Popped} {w rest : ℕ} {o : Slot} → t ≡ popped A len → t ≡ Top w rest → o ≡ slot_of w → o ≡ Nothing
+    pub back_none : (len : ℕ) {t : Option (ℕ × ℕ)} {w rest : ℕ} {o : Slot} → t ≡ popped A len → t ≡ Some (w, rest) → o ≡ slot_of w → o ≡ Nothing
         → back p L N A len ≡ back p L N A rest
     unfolding back popped
     back_none zero e d u g = let z : ◌≡◌ {A = ℕ} 0 1 = cc in absurd (omega arith)
     back_none (suc n) {t} {w} {rest} e d u g =
-        let a : w ≡ get_or A n 0 = cc in
-        let b : rest ≡ n = cc in
+        let both : ◌≡◌ {A = ℕ × ℕ} (w, rest) (get_or A n 0, n) = cc in
+        let a : w ≡ get_or A n 0 = ap (λ q. q.0) both in
+        let b : rest ≡ n = ap (λ q. q.1) both in
         rw (← a, ← u, g, back, b)
 
 -- a pop leaves fewer
-pub pop_less : (A : List ℕ) (len : ℕ) {t : Popped} {w rest : ℕ} → t ≡ popped A len → t ≡ Top w rest → rest < len
+pub pop_less : (A : List ℕ) (len : ℕ) {t : Option (ℕ × ℕ)} {w rest : ℕ} → t ≡ popped A len → t ≡ Some (w, rest) → rest < len
 unfolding popped
 pop_less A zero e d = let z : ◌≡◌ {A = ℕ} 0 1 = cc in absurd (omega arith)
-pop_less A (suc n) {t} {w} {rest} e d = let b : rest ≡ n = cc in omega arith
+pop_less A (suc n) {t} {w} {rest} e d =
+    let both : ◌≡◌ {A = ℕ × ℕ} (w, rest) (get_or A n 0, n) = cc in
+    let b : rest ≡ n = ap (λ q. q.1) both in
+    omega arith
 
 -- ---- a stack of nothing: one more on it changes no word, and from it no way goes back
 clear : (k x : ℕ) → ◌≡◌ {A = ℕ} (get_or {A = ℕ} (replicate k 0) x 0) 0

@@ -12,7 +12,6 @@ use flags::Flags;
 use primitive::rows::{DEPS_TAIL, LINK, NEXT_SUB, NODE, PREV_DEP, SUB, SUBS};
 use primitive::slots::Slot;
 use primitive::{slots, words};
-use stack::Popped;
 
 // Flags that are tested together.
 const CHANGED: Flags = Flags {
@@ -123,7 +122,7 @@ fn propagate_on(
         let flags = reach(nodes, links, link, sub);
         let Slot::At(down) = below(nodes, sub, flags) else {
             let Slot::At(along) = slots::open(next) else {
-                while let Popped::Top(w, rest) = stack::pop(&stack, len) {
+                while let Some((w, rest)) = stack::pop(&stack, len) {
                     len = rest;
                     let Slot::At(back) = slots::open(w) else {
                         continue;

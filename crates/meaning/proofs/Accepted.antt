@@ -1,9 +1,9 @@
 -- From well-formed tables every command leaves well-formed tables and is not stuck. Assumes nothing.
+use Rattle.std.specs.Prelude.{Option, None, Some, unwrap_or}
 use mathlib.Core.Path.{◌≡◌, refl, sym, ap, ◌∙◌, subst}
 use mathlib.Core.Logic.{◌⊎◌, inl, inr}
 use mathlib.Core.Bool.{Bool, true, false, not, ◌&&◌, ◌||◌}
 use mathlib.Core.List.{List, [], ◌∷◌}
-use mathlib.Core.Option.{Option, none, some, get_or}
 use Prim.Native.Nat.{ℕ, zero, suc, ◌+◌, ◌≤◌, ◌<◌}
 use native.Mathlib.Omega.{arith}
 use lib.Dec.{leb, ltb}
@@ -111,7 +111,7 @@ module _ (s : St) (rows : ℕ) (w : WellFormed s) where
   known p (negsuc n) e = false≢true e
 
   -- ---- rows 3 to 7 leave room for a new node
-  owner_fits : (o : ℤ) → wrong_owner v o ≡ false → is_gone v o ≡ false → (p : ℕ) → owner_of o ≡ some p → (p < s.size) × (readable (s.kind p) ≡ false) × (s.gone p ≡ false)
+  owner_fits : (o : ℤ) → wrong_owner v o ≡ false → is_gone v o ≡ false → (p : ℕ) → owner_of o ≡ Some p → (p < s.size) × (readable (s.kind p) ≡ false) × (s.gone p ≡ false)
   owner_fits (pos q) a b p e =
       let x = known an_owner (pos q) (not-false (is_a v an_owner (pos q)) a) in
       subst (λ (z : ℕ). (z < s.size) × (readable (s.kind z) ≡ false) × (s.gone z ≡ false)) (same_some e) (x.0, not-true (readable (s.kind q)) x.1, b)
@@ -131,15 +131,15 @@ module _ (s : St) (rows : ℕ) (w : WellFormed s) where
 
   legal : (o : Option (List ℤ)) → on o (λ cs. not (legal_cells v cs)) ≡ false → Legal (tree_in o)
   unfolding size nesting names
-  legal none e = record { known = λ m j. absurd j; few = omega arith; shallow = omega arith }
-  legal (some cs) e = go (tree_of cs) refl e
+  legal None e = record { known = λ m j. absurd j; few = omega arith; shallow = omega arith }
+  legal (Some cs) e = go (tree_of cs) refl e
     where
-      go : (o : Option Tree) → tree_of cs ≡ o → not (on o (λ t. all_readable v (names t))) ≡ false → Legal (get_or o (constant (pos 0)))
-      go none q a = false≢true (sym a)
-      go (some t) q a = let x = (tree_exact cs t).0 q in record { known = readable_known (names t) (not-false (all_readable v (names t)) a); few = x.few; shallow = x.shallow }
+      go : (o : Option Tree) → tree_of cs ≡ o → not (on o (λ t. all_readable v (names t))) ≡ false → Legal (unwrap_or o (constant (pos 0)))
+      go None q a = false≢true (sym a)
+      go (Some t) q a = let x = (tree_exact cs t).0 q in record { known = readable_known (names t) (not-false (all_readable v (names t)) a); few = x.few; shallow = x.shallow }
 
-  fits : (k : Kind) (cs : Option (List ℤ)) (o : ℤ) → wrong_owner v o ≡ false → is_gone v o ≡ false → on cs (λ ws. not (legal_cells v ws)) ≡ false → ltb (most_level k) (level_of s.level k (tree_in cs) (owner_of o)) ≡ false → full v (some k) (tree_in cs) (owner_of o) ≡ false
-      → (readable k ≡ true → owner_of o ≡ none) → ((k ≡ signal) ⊎ (k ≡ scope) → names (tree_in cs) ≡ []) → Fits (with_log s []) k (tree_in cs) (owner_of o)
+  fits : (k : Kind) (cs : Option (List ℤ)) (o : ℤ) → wrong_owner v o ≡ false → is_gone v o ≡ false → on cs (λ ws. not (legal_cells v ws)) ≡ false → ltb (most_level k) (level_of s.level k (tree_in cs) (owner_of o)) ≡ false → full v (Some k) (tree_in cs) (owner_of o) ≡ false
+      → (readable k ≡ true → owner_of o ≡ None) → ((k ≡ signal) ⊎ (k ≡ scope) → names (tree_in cs) ≡ []) → Fits (with_log s []) k (tree_in cs) (owner_of o)
   unfolding reserve
   fits k cs o a b c d e un nm =
       let l = legal cs c in
@@ -183,31 +183,31 @@ module _ (s : St) (rows : ℕ) (w : WellFormed s) where
   end_well (suc (suc d)) e h = record { formed = subst (λ (x : ℕ). WellFormed (end_at (with_log s []) x)) e (inner_end_well_formed (with_log s []) d e logless); stuck = refl }
 
   -- the four makings
-  pub signal_fits : (x : ℤ) → NoneHolds (table true v (some (make_signal x))) → Fits (with_log s []) signal (constant (pos 0)) none
+  pub signal_fits : (x : ℤ) → NoneHolds (table true v (Some (make_signal x))) → Fits (with_log s []) signal (constant (pos 0)) None
   unfolding table wrong_node gone_node bad_formula too_high no_room asks_of names
-  signal_fits x h = fits signal none (negsuc 0) refl refl refl (h 5) (h 6) (λ r. refl) (λ r. refl)
+  signal_fits x h = fits signal None (negsuc 0) refl refl refl (h 5) (h 6) (λ r. refl) (λ r. refl)
 
-  pub computed_fits : (cs : List ℤ) → NoneHolds (table true v (some (make_computed cs))) → Fits (with_log s []) computed (formula_of cs) none
+  pub computed_fits : (cs : List ℤ) → NoneHolds (table true v (Some (make_computed cs))) → Fits (with_log s []) computed (formula_of cs) None
   unfolding table wrong_node gone_node bad_formula too_high no_room asks_of
-  computed_fits cs h = fits computed (some cs) (negsuc 0) refl refl (h 4) (h 5) (h 6) (λ r. refl) (λ r. not_plain r)
+  computed_fits cs h = fits computed (Some cs) (negsuc 0) refl refl (h 4) (h 5) (h 6) (λ r. refl) (λ r. not_plain r)
     where
       not_plain : (computed ≡ signal) ⊎ (computed ≡ scope) → names (formula_of cs) ≡ []
       not_plain (inl e) = false≢true (sym (ap a_computed e))
       not_plain (inr e) = false≢true (sym (ap a_computed e))
 
-  pub effect_fits : (o : ℤ) (cs : List ℤ) → NoneHolds (table true v (some (make_effect o cs))) → Fits (with_log s []) effect (formula_of cs) (owner_of o)
+  pub effect_fits : (o : ℤ) (cs : List ℤ) → NoneHolds (table true v (Some (make_effect o cs))) → Fits (with_log s []) effect (formula_of cs) (owner_of o)
   unfolding table wrong_node gone_node bad_formula too_high no_room asks_of
-  effect_fits o cs h = fits effect (some cs) o (h 2) (h 3) (h 4) (h 5) (h 6) (λ r. false≢true r) (λ r. not_plain r)
+  effect_fits o cs h = fits effect (Some cs) o (h 2) (h 3) (h 4) (h 5) (h 6) (λ r. false≢true r) (λ r. not_plain r)
     where
       not_plain : (effect ≡ signal) ⊎ (effect ≡ scope) → names (formula_of cs) ≡ []
       not_plain (inl e) = false≢true (sym (ap is_effect e))
       not_plain (inr e) = false≢true (sym (ap is_effect e))
 
-  pub scope_fits : (o : ℤ) → NoneHolds (table true v (some (make_scope o))) → Fits (with_log s []) scope (constant (pos 0)) (owner_of o)
+  pub scope_fits : (o : ℤ) → NoneHolds (table true v (Some (make_scope o))) → Fits (with_log s []) scope (constant (pos 0)) (owner_of o)
   unfolding table wrong_node gone_node bad_formula too_high no_room asks_of names
-  scope_fits o h = fits scope none o (h 2) (h 3) refl (h 5) (h 6) (λ r. false≢true r) (λ r. refl)
+  scope_fits o h = fits scope None o (h 2) (h 3) refl (h 5) (h 6) (λ r. false≢true r) (λ r. refl)
 
-  perform_well : (c : Command) → NoneHolds (table true v (some c)) → Well (with_log s []) (perform (with_log s []) c).st
+  perform_well : (c : Command) → NoneHolds (table true v (Some c)) → Well (with_log s []) (perform (with_log s []) c).st
   unfolding table perform wrong_node gone_node bad_formula too_high no_room wrong_depth asks_of names
   perform_well (make_signal x) h = signal_well (with_log s []) logless (value x) (signal_fits x h)
   perform_well (make_computed cs) h = computed_well (with_log s []) logless (formula_of cs) (computed_fits cs h)
@@ -228,8 +228,8 @@ module _ (s : St) (rows : ℕ) (w : WellFormed s) where
   -- ---- a command that is accepted is performed, and no row holds of it
   any_well : (c : Option Command) → NoneHolds (table true v c) → Well s (perform_any (with_log s []) c).st
   unfolding perform_any table unknown
-  any_well none h = false≢true (sym (h 1))
-  any_well (some c) h = let r = perform_well c h in record { formed = r.formed; stuck = r.stuck }
+  any_well None h = false≢true (sym (h 1))
+  any_well (Some c) h = let r = perform_well c h in record { formed = r.formed; stuck = r.stuck }
 
 -- from well-formed tables: well formed after it, and not stuck unless the state was so before
 pub command_kept : (well : Bool) (s : St) (rows : ℕ) (ws : List ℤ) → WellFormed s → Well s (command well s rows ws).st

@@ -1,8 +1,8 @@
 -- The read links of a live effect change only in its own run or its disposal. Assumes nothing.
+use Rattle.std.specs.Prelude.{Option, None, Some}
 use mathlib.Core.Path.{◌≡◌, refl, sym, ap, ◌∙◌, subst}
 use mathlib.Core.Bool.{true, false}
 use mathlib.Core.List.{List, [], ◌++◌}
-use mathlib.Core.Option.{Option, none, some}
 use Prim.Native.Nat.{ℕ, zero, suc, ◌<◌}
 use lib.IntN.{ℤ, pos}
 use borrow.Author.Tests.{not-true}
@@ -97,10 +97,10 @@ module _ (s : St) (rows : ℕ) (w : WellFormed s) where
   ends_bound (suc zero) = flushed (with_depth (with_log s []) 0) (others g nobody (with_log s []) i s.cycle s.sto s.pend 0 [] s.stuck) refl refl refl refl refl
   ends_bound (suc (suc d)) = by_same _ refl (λ m lo ke a. record { links = refl; ends = λ l j. (refl, refl) })
 
-  perform_bound : (c : Command) → NoneHolds (table true v (some c)) → Bound s (perform (with_log s []) c).st
+  perform_bound : (c : Command) → NoneHolds (table true v (Some c)) → Bound s (perform (with_log s []) c).st
   unfolding table perform wrong_node gone_node bad_formula too_high no_room asks_of new_signal new_computed new_scope
-  perform_bound (make_signal x) h = λ e lo ke a n. let r = (made (with_log s []) wl signal (constant (pos 0)) f1 (value x) refl none (signal_fits s rows w x h) (λ p q. none_some q)).reads e lo in record { links = r.links; ends = r.ends }
-  perform_bound (make_computed cs) h = λ e lo ke a n. let r = (made (with_log s []) wl computed (formula_of cs) f0 nothing refl none (computed_fits s rows w cs h) (λ p q. none_some q)).reads e lo in record { links = r.links; ends = r.ends }
+  perform_bound (make_signal x) h = λ e lo ke a n. let r = (made (with_log s []) wl signal (constant (pos 0)) f1 (value x) refl None (signal_fits s rows w x h) (λ p q. none_some q)).reads e lo in record { links = r.links; ends = r.ends }
+  perform_bound (make_computed cs) h = λ e lo ke a n. let r = (made (with_log s []) wl computed (formula_of cs) f0 nothing refl None (computed_fits s rows w cs h) (λ p q. none_some q)).reads e lo in record { links = r.links; ends = r.ends }
   perform_bound (make_effect o cs) h = λ e lo ke a n. let r = effect_reads (with_log s []) wl (owner_of o) (formula_of cs) (effect_fits s rows w o cs h) e lo ke in record { links = r.links; ends = r.ends }
   perform_bound (make_scope o) h = λ e lo ke a n. let r = (made (with_log s []) wl scope (constant (pos 0)) f0 nothing refl (owner_of o) (scope_fits s rows w o h) (λ p q. refl)).reads e lo in record { links = r.links; ends = r.ends }
   perform_bound (set_to n x) h = stored (node_of n) (value x) (taken s rows w a_signal n (h 2))
@@ -118,8 +118,8 @@ module _ (s : St) (rows : ℕ) (w : WellFormed s) where
 
   any_bound : (c : Option Command) → NoneHolds (table true v c) → Bound s (perform_any (with_log s []) c).st
   unfolding perform_any table unknown
-  any_bound none h = false≢true (sym (h 1))
-  any_bound (some c) h = perform_bound c h
+  any_bound None h = false≢true (sym (h 1))
+  any_bound (Some c) h = perform_bound c h
 
 -- the read links of a live effect change only in its own run or its disposal
 pub links_bound : (s : St) (rows : ℕ) (ws : List ℤ) → WellFormed s → (e : ℕ) → e < s.size → s.kind e ≡ effect → (command true s rows ws).st.gone e ≡ false → (In e (whos (command true s rows ws).rows) → ⊥)

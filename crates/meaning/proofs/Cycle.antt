@@ -1,8 +1,8 @@
 -- The cycle: raised once for each evaluation that is not a first one, whatever the formulas. Assumes nothing.
+use Rattle.std.specs.Prelude.{Option, None, Some}
 use mathlib.Core.Path.{◌≡◌, refl, ap, ◌∙◌}
 use mathlib.Core.Bool.{false}
 use mathlib.Core.List.{List, [], ◌∷◌}
-use mathlib.Core.Option.{Option, none, some}
 use Prim.Native.Nat.{ℕ, zero, suc, ◌+◌, ◌<◌, ◌%◌, ◌^◌}
 use native.Mathlib.Omega.{arith}
 use Rattle.values.specs.declared.Value.{Value}
@@ -111,8 +111,8 @@ end_cycle s (suc zero) = flush_cycle s.queue (with_depth s 0)
 end_cycle s (suc (suc d)) = refl
 
 owned_cycle : (s : St) (n : ℕ) (o : Option ℕ) → (owned s n o).cycle ≡ s.cycle
-owned_cycle s n none = refl
-owned_cycle s n (some o) = link_cycle s n o 0
+owned_cycle s n None = refl
+owned_cycle s n (Some o) = link_cycle s n o 0
 
 effect_cycle : (s : St) (o : Option ℕ) (t : Tree) → Raised (count_new_effect false s o t) s (new_effect s o t)
 unfolding new_effect count_new_effect logged

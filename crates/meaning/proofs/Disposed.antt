@@ -1,9 +1,9 @@
 -- Disposal: what is gone is gone with all it owns, and has no links; nothing else goes; the reserve of what goes comes back. Assumes nothing.
+use Rattle.std.specs.Prelude.{Option, Some}
 use mathlib.Core.Path.{◌≡◌, refl, sym, ap, ◌∙◌, subst}
 use mathlib.Core.Logic.{inl}
 use mathlib.Core.Bool.{Bool, true, false}
 use mathlib.Core.List.{List, []}
-use mathlib.Core.Option.{Option, some}
 use Prim.Native.Nat.{ℕ, ◌+◌, ◌<◌}
 use native.Mathlib.Omega.{arith}
 use lib.IntN.{ℤ, pos}
@@ -51,7 +51,7 @@ below_stays s t w same x y h (itself e) = itself e
 below_stays s t w same x y h (through o b q) = let lo = w.depends.owner_lower y o h q in through o (below_stays s t w same x o (omega arith) b) (same y h ∙ q)
 
 -- ---- an accepted dispose
-module _ (s : St) (rows : ℕ) (w : WellFormed s) (ws : List ℤ) (x : ℕ) (is : command_of ws ≡ some (dispose_of (pos x))) (a : (command true s rows ws).code ≡ 0) where
+module _ (s : St) (rows : ℕ) (w : WellFormed s) (ws : List ℤ) (x : ℕ) (is : command_of ws ≡ Some (dispose_of (pos x))) (a : (command true s rows ws).code ≡ 0) where
   pub record Goes (t : St) : Type 0 where
     pub gone : t.gone x ≡ true
     pub others : (m : ℕ) → m < s.size → (Below s.owner x m → ⊥) → t.gone m ≡ s.gone m
@@ -63,7 +63,7 @@ module _ (s : St) (rows : ℕ) (w : WellFormed s) (ws : List ℤ) (x : ℕ) (is 
       let p = performed s rows ws (dispose_of (pos x)) is a in
       subst Goes (sym (ap (λ (z : Answer). z.st) p.0)) (now p.1)
     where
-      now : NoneHolds (table true (sight_of s rows) (some (dispose_of (pos x)))) → Goes (perform (with_log s []) (dispose_of (pos x))).st
+      now : NoneHolds (table true (sight_of s rows) (Some (dispose_of (pos x)))) → Goes (perform (with_log s []) (dispose_of (pos x))).st
       now h =
           let wl = logless s rows w in
           let k = taken s rows w an_owner (pos x) (h 2) in

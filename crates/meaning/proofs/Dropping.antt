@@ -1,9 +1,9 @@
 -- The first ring inside an operation: unlink, unwatched, dispose and purge keep well-formedness, are not stuck, and touch only what lies under them. Assumes nothing.
+use Rattle.std.specs.Prelude.{Option, None, Some}
 use mathlib.Core.Path.{◌≡◌, refl, sym, ap, ap₂, ◌∙◌, subst, fun_ext}
 use mathlib.Core.Logic.{◌⊎◌, inl, inr}
 use mathlib.Core.Bool.{Bool, true, false}
 use mathlib.Core.List.{List, [], ◌∷◌, ◌++◌}
-use mathlib.Core.Option.{Option, none, some}
 use Prim.Native.Nat.{ℕ, zero, suc, ◌+◌, ◌≤◌, ◌<◌}
 use native.Mathlib.Omega.{arith}
 use lib.Dec.{eqb}
@@ -530,7 +530,7 @@ module _ (g : Given) (st : Static g) where
       queued = was.queued;
     }
       where
-        alone : (o : ℕ) → (cut s l).gone (s.dep l) ≡ false → g.owner (s.dep l) ≡ some o → (cut s l).subs (s.dep l) ≡ []
+        alone : (o : ℕ) → (cut s l).gone (s.dep l) ≡ false → g.owner (s.dep l) ≡ Some o → (cut s l).subs (s.dep l) ≡ []
         alone o a q =
             let x = was.owned o a q in
             none_nil ((cut s l).subs (s.dep l)) (λ k j.
@@ -788,8 +788,8 @@ module _ (g : Given) (st : Static g) where
 
           first : (k : ℕ) → In k (s.subs x) → (gn : Bool) → s.gone x ≡ gn → (ow : Option ℕ) → g.owner x ≡ ow → k ≡ head_or (s.subs x)
           first k j true a ow b = absurd (nil_none (s.subs x) k (was_resting.bare a).1 j)
-          first k j false a none b = absurd (nil_none (s.subs x) k (was_resting.unowned r b) j)
-          first k j false a (some o) b = let w = was_resting.owned o a b in same k (subst (In k) w.1 j) ∙ sym (ap head_or w.1)
+          first k j false a None b = absurd (nil_none (s.subs x) k (was_resting.unowned r b) j)
+          first k j false a (Some o) b = let w = was_resting.owned o a b in same k (subst (In k) w.1 j) ∙ sym (ap head_or w.1)
 
           one : (k : ℕ) → In k (t.subs x) → k ≡ head_or (s.subs x)
           one k j = first k (subst (In k) same_subs j) (s.gone x) refl (g.owner x) refl

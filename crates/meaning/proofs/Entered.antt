@@ -1,8 +1,8 @@
 -- A new effect runs at once: this keeps well-formedness, is not stuck, and leaves the read links of other effects and every mark alone. Assumes nothing.
+use Rattle.std.specs.Prelude.{Option, None, Some}
 use mathlib.Core.Path.{◌≡◌, refl, sym, ap, ◌∙◌, subst}
 use mathlib.Core.Bool.{Bool, false}
 use mathlib.Core.List.{List}
-use mathlib.Core.Option.{Option, none, some}
 use Prim.Native.Nat.{ℕ, ◌≤◌, ◌<◌}
 use native.Mathlib.Omega.{arith}
 use lib.ListN.{length}
@@ -26,8 +26,8 @@ use Rattle.meaning.proofs.Made.{Made, made, Well, ended}
 module _ (s : St) (w : WellFormed s) where
   -- no mark changes where an owner is linked
   pub owned_marks : (x : St) (n : ℕ) (o : Option ℕ) → (owned x n o).gone ≡ x.gone
-  owned_marks x n none = refl
-  owned_marks x n (some p) = link_marks x n p 0
+  owned_marks x n None = refl
+  owned_marks x n (Some p) = link_marks x n p 0
 
   -- ---- a new effect, and its first run
   module _ (o : Option ℕ) (t : Tree) (fits : Fits s effect t o) where

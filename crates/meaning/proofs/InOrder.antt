@@ -1,8 +1,8 @@
 -- The order of a command's rows, and the order of the dirty checks in it, from any well-formed tables (specs/Turns, specs/Checks). Assumes nothing.
+use Rattle.std.specs.Prelude.{Some}
 use mathlib.Core.Path.{◌≡◌, refl, sym, ap, ◌∙◌, subst}
 use mathlib.Core.Bool.{Bool, true, false}
 use mathlib.Core.List.{List, [], ◌++◌}
-use mathlib.Core.Option.{some}
 use Prim.Native.Nat.{ℕ, ◌<◌}
 use lib.IntN.{ℤ}
 use borrow.Author.Tests.{eqb-true}
@@ -51,7 +51,7 @@ module _ (s : St) (rows : ℕ) (ws : List ℤ) (w : WellFormed s) (ok : (command
   abbrev Ordered : Command → Type 0
   Ordered c = (p : St) × FlushBegins s c p × InTurn p p.queue ran
 
-  write_ordered : (c : Command) (n : ℕ) (x : Value) → command_of ws ≡ some c → Writes s c n x → n < s.size → s.kind n ≡ signal → s.depth ≡ 0 → Ordered c
+  write_ordered : (c : Command) (n : ℕ) (x : Value) → command_of ws ≡ Some c → Writes s c n x → n < s.size → s.kind n ≡ signal → s.depth ≡ 0 → Ordered c
   unfolding whos
   write_ordered c n x is wr h k d = either (same (s.pend n) x) (λ e. nothing (same_yes (s.pend n) x e)) (λ e. walk (λ q. clash (yes_same (s.pend n) x q) e))
     where
@@ -71,7 +71,7 @@ module _ (s : St) (rows : ℕ) (ws : List ℤ) (w : WellFormed s) (ok : (command
           )
 
   -- the rows of a command that flushes: of the queue as it stands when the flush begins, in its order, who is live and dirty at its turn
-  pub rows_in_order : (c : Command) → command_of ws ≡ some c → flushes c s.depth ≡ true → Ordered c
+  pub rows_in_order : (c : Command) → command_of ws ≡ Some c → flushes c s.depth ≡ true → Ordered c
   unfolding table wrong_node asks_of
   rows_in_order (set_to n v) is f = let k = taken s rows w _ n ((performed s rows ws (set_to n v) is ok).1 2) in write_ordered (set_to n v) (node_of n) _ is (sets n v) k.0 (is_signal s rows w (s.kind (node_of n)) k.1) (eqb-true s.depth 0 f)
   rows_in_order (add_to n v) is f = let k = taken s rows w _ n ((performed s rows ws (add_to n v) is ok).1 2) in write_ordered (add_to n v) (node_of n) _ is (adds n v) k.0 (is_signal s rows w (s.kind (node_of n)) k.1) (eqb-true s.depth 0 f)
@@ -88,11 +88,11 @@ module _ (s : St) (rows : ℕ) (ws : List ℤ) (w : WellFormed s) (ok : (command
   rows_in_order batch_start is f = false≢true f
 
   -- and no other rows, and no other order
-  pub no_other_order : (c : Command) → command_of ws ≡ some c → flushes c s.depth ≡ true → (p : St) (r : List ℕ) → FlushBegins s c p → InTurn p p.queue r → r ≡ ran
+  pub no_other_order : (c : Command) → command_of ws ≡ Some c → flushes c s.depth ≡ true → (p : St) (r : List ℕ) → FlushBegins s c p → InTurn p p.queue r → r ≡ ran
   no_other_order c is f p r b i = let o = rows_in_order c is f in in_turn_one i (subst (λ (x : St). InTurn x x.queue ran) (sym (begins_one b o.1)) o.2)
 
   -- a read of a node that has a value brings it up to date so, and if its value changed its pending subscribers are dirty
-  pub read_in_order : (n : ℤ) → command_of ws ≡ some (read_of n) → (s.fl (node_of n)).mutable ≡ true
+  pub read_in_order : (n : ℤ) → command_of ws ≡ Some (read_of n) → (s.fl (node_of n)).mutable ≡ true
       → (x : St) × (b : Bool) × Looked Updated (at (node_of n)) (with_log s []) x b × ((command true s rows ws).st ≡ elim b [ true ↦ shallow x (node_of n) | false ↦ x ])
   unfolding perform settle_w
   read_in_order n is m =

@@ -1,9 +1,9 @@
 -- Well-formedness inside an operation: as at rest, but nothing is asked of the nodes of X, whose evaluation, purge or making is under way. Assumes nothing.
+use Rattle.std.specs.Prelude.{Option, None, Some}
 use mathlib.Core.Path.{◌≡◌, refl, sym, ap, ◌∙◌, subst}
 use mathlib.Core.Logic.{◌⊎◌, inl, inr}
 use mathlib.Core.Bool.{Bool, true, false}
 use mathlib.Core.List.{List, [], ◌∷◌, ◌++◌, append-nil}
-use mathlib.Core.Option.{Option, none, some}
 use Prim.Native.Nat.{ℕ, ◌≤◌, ◌<◌}
 use native.Mathlib.Omega.{arith}
 use lib.Dec.{eqb}
@@ -40,8 +40,8 @@ only n m = m ≡ n
 pub record Static (g : Given) : Type 0 where
   pub names_lower : (n m : ℕ) → n < g.size → In m (names (g.form n)) → (readable (g.kind m) ≡ true) × (rank m < rank n)
   pub nameless : (n : ℕ) → n < g.size → (g.kind n ≡ signal) ⊎ (g.kind n ≡ scope) → names (g.form n) ≡ []
-  pub owner_lower : (n o : ℕ) → n < g.size → g.owner n ≡ some o → o < n
-  pub owner_kind : (n : ℕ) → n < g.size → readable (g.kind n) ≡ true → g.owner n ≡ none
+  pub owner_lower : (n o : ℕ) → n < g.size → g.owner n ≡ Some o → o < n
+  pub owner_kind : (n : ℕ) → n < g.size → readable (g.kind n) ≡ true → g.owner n ≡ None
   pub cells_few : (n : ℕ) → n < g.size → size (g.form n) ≤ most_cells
   pub nesting_low : (n : ℕ) → n < g.size → nesting (g.form n) ≤ most_nesting
   pub levels : (n : ℕ) → n < g.size → g.level n ≡ level_of g.level (g.kind n) (g.form n) (g.owner n)
@@ -57,13 +57,13 @@ pub record Goes (g : Given) (d u : ℕ) : Type 0 where
   pub of_scope : g.kind u ≡ scope → readable (g.kind d) ≡ false
   pub lower : readable (g.kind d) ≡ true → rank d < rank u
   pub named : readable (g.kind d) ≡ true → In d (names (g.form u))
-  pub owned : readable (g.kind d) ≡ false → g.owner d ≡ some u
+  pub owned : readable (g.kind d) ≡ false → g.owner d ≡ Some u
 
 -- a node n with these flags, mark of being gone, and lists
 pub record AtRest (g : Given) (queue : List ℕ) (dep sub : ℕ → ℕ) (n : ℕ) (f : Named) (gn : Bool) (done rest subs : List ℕ) : Type 0 where
   pub tail : rest ≡ []
-  pub owned : (o : ℕ) → gn ≡ false → g.owner n ≡ some o → (l : ℕ) × (subs ≡ l ∷ []) × (sub l ≡ o)
-  pub unowned : readable (g.kind n) ≡ false → g.owner n ≡ none → subs ≡ []
+  pub owned : (o : ℕ) → gn ≡ false → g.owner n ≡ Some o → (l : ℕ) × (subs ≡ l ∷ []) × (sub l ≡ o)
+  pub unowned : readable (g.kind n) ≡ false → g.owner n ≡ None → subs ≡ []
   pub bare : gn ≡ true → (done ≡ []) × (subs ≡ [])
   pub few : length (read_links g.kind dep done) ≤ length (names (g.form n))
   pub of_signal : g.kind n ≡ signal → (f ≡ f1) ⊎ (f ≡ f17)

@@ -1,8 +1,8 @@
 -- What a command never changes: node and cell counts do not fall; kinds, formulas, owners, levels and gone marks, once given, stay. Assumes nothing.
+use Rattle.std.specs.Prelude.{Option, None, Some}
 use mathlib.Core.Path.{◌≡◌, refl, ap, ◌∙◌}
 use mathlib.Core.Bool.{Bool, true, false}
 use mathlib.Core.List.{List, []}
-use mathlib.Core.Option.{Option, none, some}
 use Prim.Native.Nat.{ℕ, zero, suc, ◌+◌, ◌≤◌, ◌<◌}
 use native.Mathlib.Omega.{arith}
 use lib.IntN.{ℤ, pos}
@@ -135,8 +135,8 @@ node_stays s k t o b v = record {
 }
 
 owned_keeps : (s : St) (n : ℕ) (o : Option ℕ) → Keeps s (owned s n o)
-owned_keeps s n none = keeps s
-owned_keeps s n (some o) = link_keeps s n o 0
+owned_keeps s n None = keeps s
+owned_keeps s n (Some o) = link_keeps s n o 0
 
 effect_keeps : (s : St) (o : Option ℕ) (t : Tree) → Keeps (node s effect t o f6 nothing) (new_effect s o t)
 unfolding new_effect logged
@@ -150,8 +150,8 @@ effect_keeps s o t =
 
 perform_stays : (s : St) (c : Command) → Stays s (perform s c).st
 unfolding perform new_signal new_computed new_scope
-perform_stays s (make_signal v) = node_stays s signal (constant (pos 0)) none f1 _
-perform_stays s (make_computed cs) = node_stays s computed (formula_of cs) none f0 nothing
+perform_stays s (make_signal v) = node_stays s signal (constant (pos 0)) None f1 _
+perform_stays s (make_computed cs) = node_stays s computed (formula_of cs) None f0 nothing
 perform_stays s (make_effect o cs) = stays_then s _ _ (node_stays s effect (formula_of cs) (owner_of o) f6 nothing) (kept_stays _ _ (effect_keeps s (owner_of o) (formula_of cs)))
 perform_stays s (make_scope o) =
     let a = node s scope (constant (pos 0)) (owner_of o) f0 nothing in
@@ -179,8 +179,8 @@ perform_makes s batch_end = let e = sized _ _ (end_keeps s s.depth) in omega ari
 
 any_stays : (s : St) (c : Option Command) → Stays s (perform_any s c).st
 unfolding perform_any
-any_stays s none = kept_stays s _ (record { still = refl; gone = λ n e. e })
-any_stays s (some c) = perform_stays s c
+any_stays s None = kept_stays s _ (record { still = refl; gone = λ n e. e })
+any_stays s (Some c) = perform_stays s c
 
 pub command_stays : (well : Bool) (s : St) (rows : ℕ) (ws : List ℤ) → Stays s (command well s rows ws).st
 unfolding command answer

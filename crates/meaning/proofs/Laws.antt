@@ -1,9 +1,9 @@
 -- Laws used everywhere: a test's two ways, a column with one place changed, membership. Assumes nothing.
+use Rattle.std.specs.Prelude.{None, Some}
 use mathlib.Core.Path.{◌≡◌, refl, sym, ◌∙◌, subst}
 use mathlib.Core.Logic.{inl, inr}
 use mathlib.Core.Bool.{Bool, true, false, ◌||◌}
 use mathlib.Core.List.{List, [], ◌∷◌, ◌++◌}
-use mathlib.Core.Option.{none, some}
 use Prim.Native.Nat.{ℕ}
 use native.Mathlib.Omega.{arith}
 use lib.Dec.{T, eqb}
@@ -81,10 +81,10 @@ or_right true b e = false≢true (sym e)
 or_right false b e = e
 
 -- ---- options
-pub none_some : {C : Type 0} {A : Type 0} {x : A} → none ≡ some x → C
+pub none_some : {C : Type 0} {A : Type 0} {x : A} → None ≡ Some x → C
 none_some e = let z : ◌≡◌ {A = ℕ} 0 1 = cc in absurd (omega arith)
 
-pub same_some : {A : Type 0} {x y : A} → some x ≡ some y → x ≡ y
+pub same_some : {A : Type 0} {x y : A} → Some x ≡ Some y → x ≡ y
 same_some e = cc
 
 -- ---- columns

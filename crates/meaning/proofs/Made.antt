@@ -1,9 +1,9 @@
 -- A new node, linked to its owner, keeps well-formedness and is not stuck: signals, computeds and scopes. Assumes nothing.
+use Rattle.std.specs.Prelude.{Option, None, Some}
 use mathlib.Core.Path.{◌≡◌, refl, sym, ap, ap₂, ◌∙◌, subst}
 use mathlib.Core.Logic.{inl, inr}
 use mathlib.Core.Bool.{Bool, true, false, ◌||◌}
 use mathlib.Core.List.{List, [], ◌∷◌, ◌++◌, append-nil}
-use mathlib.Core.Option.{Option, none, some}
 use Prim.Native.Nat.{ℕ, ◌≤◌, ◌<◌}
 use native.Mathlib.Omega.{arith}
 use lib.Dec.{eqb}
@@ -49,40 +49,40 @@ module _ (s : St) (w : WellFormed s) (k : Kind) (t : Tree) (b : Named) (v : Valu
     pub depth : x.depth ≡ s.depth
     pub reads : (m : ℕ) → m < s.size → ReadsStay s x m
 
-  unowned_made : (fits : Fits s k t none) → Made none fits (node s k t none b v)
+  unowned_made : (fits : Fits s k t None) → Made None fits (node s k t None b v)
   unowned_made fits =
-      let d = done_new s w k t none b v fits in
+      let d = done_new s w k t None b v fits in
       record {
-        inside = new_inside s w k t none b v fits calm;
+        inside = new_inside s w k t None b v fits calm;
         stuck = refl;
         owns = record {
-          owned = λ p q. none_some (sym (owner_new s w k t none b v fits s.size refl) ∙ q);
-          unowned = λ q. subs_new s w k t none b v fits s.size refl;
-          alive = gone_new s w k t none b v fits s.size refl;
+          owned = λ p q. none_some (sym (owner_new s w k t None b v fits s.size refl) ∙ q);
+          unowned = λ q. subs_new s w k t None b v fits s.size refl;
+          alive = gone_new s w k t None b v fits s.size refl;
         };
         done = d.0;
         rest = d.1;
-        flag = fl_new s w k t none b v fits s.size refl;
+        flag = fl_new s w k t None b v fits s.size refl;
         queue = refl;
         depth = refl;
-        reads = new_reads s w k t none b v fits;
+        reads = new_reads s w k t None b v fits;
       }
 
-  module _ (p : ℕ) (fits : Fits s k t (some p)) (rk : readable k ≡ false) where
+  module _ (p : ℕ) (fits : Fits s k t (Some p)) (rk : readable k ≡ false) where
     abbrev n : ℕ
     n = s.size
 
     abbrev M : St
-    M = node s k t (some p) b v
+    M = node s k t (Some p) b v
 
     abbrev g : Given
     g = given M
 
     st : Static g
-    st = new_static s w k t (some p) b v fits
+    st = new_static s w k t (Some p) b v fits
 
     i : Inside g (also nobody n) M
-    i = new_inside s w k t (some p) b v fits calm
+    i = new_inside s w k t (Some p) b v fits calm
 
     owner_ok : (p < n) × (readable (s.kind p) ≡ false) × (s.gone p ≡ false)
     owner_ok = fits.owner p refl
@@ -91,7 +91,7 @@ module _ (s : St) (w : WellFormed s) (k : Kind) (t : Tree) (b : Named) (v : Valu
     low = let a = owner_ok.0 in omega arith
 
     rn : readable (g.kind n) ≡ false
-    rn = ap readable (kind_new s w k t (some p) b v fits n refl) ∙ rk
+    rn = ap readable (kind_new s w k t (Some p) b v fits n refl) ∙ rk
 
     other : p ≡ n → ⊥
     other q = let a = owner_ok.0 in omega arith
@@ -109,7 +109,7 @@ module _ (s : St) (w : WellFormed s) (k : Kind) (t : Tree) (b : Named) (v : Valu
       of_scope = λ q. rn;
       lower = λ q. clash q rn;
       named = λ q. clash q rn;
-      owned = λ q. owner_new s w k t (some p) b v fits n refl;
+      owned = λ q. owner_new s w k t (Some p) b v fits n refl;
     }
 
     p_rests : Rests g M p
@@ -121,16 +121,16 @@ module _ (s : St) (w : WellFormed s) (k : Kind) (t : Tree) (b : Named) (v : Valu
 
     -- ---- there is a slot
     own_most : length (owner_links (g.kind n) (M.subs n)) ≡ 0
-    own_most = ap (λ (x : Bool). length {A = ℕ} (elim x as (λ (y : Bool). List ℕ) [ true ↦ [] | false ↦ M.subs n ])) rn ∙ ap length (subs_new s w k t (some p) b v fits n refl)
+    own_most = ap (λ (x : Bool). length {A = ℕ} (elim x as (λ (y : Bool). List ℕ) [ true ↦ [] | false ↦ M.subs n ])) rn ∙ ap length (subs_new s w k t (Some p) b v fits n refl)
 
     no_reads : length (read_links g.kind M.dep (deps M n)) ≡ 0
     unfolding read_links
-    no_reads = ap (λ (x : List ℕ). length (read_links g.kind M.dep x)) (deps_new s w k t (some p) b v fits n refl)
+    no_reads = ap (λ (x : List ℕ). length (read_links g.kind M.dep x)) (deps_new s w k t (Some p) b v fits n refl)
 
-    spends_now : (c : Kind) → k ≡ c → spends g M n ≡ reserve_of c false (g.form n) (some p)
+    spends_now : (c : Kind) → k ≡ c → spends g M n ≡ reserve_of c false (g.form n) (Some p)
     spends_now c e =
-        ap₂ (λ (x : Kind) (y : Bool). reserve_of x y (g.form n) (g.owner n)) (kind_new s w k t (some p) b v fits n refl ∙ e) (gone_new s w k t (some p) b v fits n refl)
-        ∙ ap (λ (z : Option ℕ). reserve_of c false (g.form n) z) (owner_new s w k t (some p) b v fits n refl)
+        ap₂ (λ (x : Kind) (y : Bool). reserve_of x y (g.form n) (g.owner n)) (kind_new s w k t (Some p) b v fits n refl ∙ e) (gone_new s w k t (Some p) b v fits n refl)
+        ∙ ap (λ (z : Option ℕ). reserve_of c false (g.form n) z) (owner_new s w k t (Some p) b v fits n refl)
 
     one_more : 1 ≤ spends g M n
     one_more = go k refl
@@ -156,7 +156,7 @@ module _ (s : St) (w : WellFormed s) (k : Kind) (t : Tree) (b : Named) (v : Valu
     unspent = let x = no_reads in let y = own_most in let z = one_more in ap (λ (q : Bool). s.stuck || q) (slot_left g st (also nobody n) M n i (omega arith) (omega arith) all_paid).1 ∙ or_false s.stuck
 
     -- ---- the link
-    inserted : (ls : List ℕ) → s.free ≡ ls → Made (some p) fits (insert M n p 0 ls)
+    inserted : (ls : List ℕ) → s.free ≡ ls → Made (Some p) fits (insert M n p 0 ls)
     unfolding insert read_links
     inserted [] e = let x = no_reads in let y = own_most in let z = one_more in absurd ((slot_left g st (also nobody n) M n i (omega arith) (omega arith) all_paid).0 e)
     inserted (l ∷ ls) e =
@@ -185,8 +185,8 @@ module _ (s : St) (w : WellFormed s) (k : Kind) (t : Tree) (b : Named) (v : Valu
           queued = ends.queued;
         } in
         let rp_now : Rests g x p = at_same g M.queue x.dep x.sub p _ _ _ _ _ _ _ _ _ _ refl refl (up_same M.done p (M.done p ++ l ∷ [])) refl (up_other M.subs n (M.subs n ++ l ∷ []) p other) rt in
-        let subs_now : x.subs n ≡ l ∷ [] = up_same M.subs n (M.subs n ++ l ∷ []) ∙ ap (λ (z : List ℕ). z ++ l ∷ []) (subs_new s w k t (some p) b v fits n refl) in
-        let d = done_new s w k t (some p) b v fits in
+        let subs_now : x.subs n ≡ l ∷ [] = up_same M.subs n (M.subs n ++ l ∷ []) ∙ ap (λ (z : List ℕ). z ++ l ∷ []) (subs_new s w k t (Some p) b v fits n refl) in
+        let d = done_new s w k t (Some p) b v fits in
         let agree : (m : ℕ) → read_links g.kind x.dep (deps M m) ≡ read_links g.kind s.dep (deps M m) =
         λ m. reads_agree g.kind s.dep x.dep (deps M m) (λ c z. up_other s.dep l n c (away c (i.lists.deps_live c m z).0)) in
         let done_p : deps M p ≡ M.done p = ap (λ (z : List ℕ). M.done p ++ z) r.tail ∙ append-nil (M.done p) in
@@ -200,16 +200,16 @@ module _ (s : St) (w : WellFormed s) (k : Kind) (t : Tree) (b : Named) (v : Valu
           inside = let_out g (also nobody n) x p (widen g (also (also (also nobody n) n) p) (also (also nobody n) p) x in_x j) rp_now;
           stuck = unspent;
           owns = record {
-            owned = λ q z. (l, subs_now, up_same s.sub l p ∙ same_some (sym (owner_new s w k t (some p) b v fits n refl) ∙ z));
-            unowned = λ z. none_some (sym z ∙ owner_new s w k t (some p) b v fits n refl);
-            alive = gone_new s w k t (some p) b v fits n refl;
+            owned = λ q z. (l, subs_now, up_same s.sub l p ∙ same_some (sym (owner_new s w k t (Some p) b v fits n refl) ∙ z));
+            unowned = λ z. none_some (sym z ∙ owner_new s w k t (Some p) b v fits n refl);
+            alive = gone_new s w k t (Some p) b v fits n refl;
           };
           done = up_other M.done p (M.done p ++ l ∷ []) n (λ q. other (sym q)) ∙ d.0;
           rest = d.1;
-          flag = fl_new s w k t (some p) b v fits n refl;
+          flag = fl_new s w k t (Some p) b v fits n refl;
           queue = refl;
           depth = refl;
-          reads = λ m h. stay_then s M x m (new_reads s w k t (some p) b v fits m h)
+          reads = λ m h. stay_then s M x m (new_reads s w k t (Some p) b v fits m h)
               (record { links = reads_now m; ends = λ c z. let far = away c (i.lists.deps_live c m (reads_sub g.kind s.dep c (deps M m) z)).0 in (up_other s.dep l n c far, up_other s.ver l 0 c far) });
         }
       where
@@ -221,27 +221,27 @@ module _ (s : St) (w : WellFormed s) (k : Kind) (t : Tree) (b : Named) (v : Valu
         not_read : read_links g.kind (up s.dep l n) (l ∷ []) ≡ []
         not_read = rw (up_same s.dep l n, read_links, rn)
 
-    link_made : Made (some p) fits (link M n p 0)
+    link_made : Made (Some p) fits (link M n p 0)
     unfolding link
     link_made =
-        branch (Made (some p) fits) (goes_to M (last_of (M.done p)) n) (λ e. absurd (not_last (M.done p) (λ l j. j) e))
-        (λ e. branch (Made (some p) fits) (goes_to M (head_of (M.rest p)) n) (λ q. absurd (not_head (M.rest p) p_rests.tail q))
-        (λ q. branch (Made (some p) fits) (is_from M (last_of (M.subs n)) p 0) (λ z. absurd (not_from (M.subs n) (subs_new s w k t (some p) b v fits n refl) z)) (λ z. inserted s.free refl)))
+        branch (Made (Some p) fits) (goes_to M (last_of (M.done p)) n) (λ e. absurd (not_last (M.done p) (λ l j. j) e))
+        (λ e. branch (Made (Some p) fits) (goes_to M (head_of (M.rest p)) n) (λ q. absurd (not_head (M.rest p) p_rests.tail q))
+        (λ q. branch (Made (Some p) fits) (is_from M (last_of (M.subs n)) p 0) (λ z. absurd (not_from (M.subs n) (subs_new s w k t (Some p) b v fits n refl) z)) (λ z. inserted s.free refl)))
       where
-        last_in : (xs : List ℕ) (l : ℕ) → last_of xs ≡ some l → In l xs
+        last_in : (xs : List ℕ) (l : ℕ) → last_of xs ≡ Some l → In l xs
         last_in [] l e = none_some e
         last_in (x ∷ xs) l e = go (last_of xs) refl e (λ m. last_in xs m)
           where
-            go : (o : Option ℕ) → last_of xs ≡ o → ◌≡◌ {A = Option ℕ} (elim o [ none ↦ some x | some y ↦ some y ]) (some l) → ((m : ℕ) → last_of xs ≡ some m → In m xs) → In l (x ∷ xs)
-            go none q z rec = inl (sym (same_some z))
-            go (some y) q z rec = inr (rec l (q ∙ z))
+            go : (o : Option ℕ) → last_of xs ≡ o → ◌≡◌ {A = Option ℕ} (elim o [ None ↦ Some x | Some y ↦ Some y ]) (Some l) → ((m : ℕ) → last_of xs ≡ Some m → In m xs) → In l (x ∷ xs)
+            go None q z rec = inl (sym (same_some z))
+            go (Some y) q z rec = inr (rec l (q ∙ z))
 
         not_last : (xs : List ℕ) → ((l : ℕ) → In l xs → In l (M.done p)) → goes_to M (last_of xs) n ≡ true → ⊥
         not_last xs sub e = go (last_of xs) refl e
           where
             go : (o : Option ℕ) → last_of xs ≡ o → goes_to M o n ≡ true → ⊥
-            go none q z = false≢true z
-            go (some l) q z =
+            go None q z = false≢true z
+            go (Some l) q z =
                 let lv = i.lists.deps_live l p (in_left l (M.done p) (M.rest p) (sub l (last_in xs l q))) in
                 let a = (w.lists.inside l lv.0).0 in
                 let c = eqb-true (s.dep l) n z in
@@ -255,9 +255,9 @@ module _ (s : St) (w : WellFormed s) (k : Kind) (t : Tree) (b : Named) (v : Valu
         not_from [] e z = false≢true z
         not_from (x ∷ xs) e z = let y = ap length e in omega arith
 
-  pub made : (o : Option ℕ) (fits : Fits s k t o) → ((p : ℕ) → o ≡ some p → readable k ≡ false) → Made o fits (owned (node s k t o b v) s.size o)
-  made none fits h = unowned_made fits
-  made (some p) fits h = link_made p fits (h p refl)
+  pub made : (o : Option ℕ) (fits : Fits s k t o) → ((p : ℕ) → o ≡ Some p → readable k ≡ false) → Made o fits (owned (node s k t o b v) s.size o)
+  made None fits h = unowned_made fits
+  made (Some p) fits h = link_made p fits (h p refl)
 
 -- ---- commands 1 to 4
 -- well formed, and not stuck unless it was
@@ -272,28 +272,28 @@ module _ (s : St) (w : WellFormed s) where
   pub ended : (k : Kind) (t : Tree) (o : Option ℕ) (b : Named) (v : Value) (fits : Fits s k t o) (x : St) → Inside (G s w k t o b v fits) nobody x → x.stuck ≡ s.stuck → x.queue ≡ s.queue → x.depth ≡ s.depth → Well s x
   ended k t o b v fits x i e q d = let z = at_depth x q d in record { formed = at_rest (G s w k t o b v fits) x (new_static s w k t o b v fits) i z.0 z.1; stuck = e }
 
-  pub signal_well : (v : Value) → Fits s signal (constant (pos 0)) none → Well s (new_signal s v)
+  pub signal_well : (v : Value) → Fits s signal (constant (pos 0)) None → Well s (new_signal s v)
   unfolding new_signal read_links
   signal_well v fits =
-      let m = made s w signal (constant (pos 0)) f1 v refl none fits (λ p e. none_some e) in
-      let x = node s signal (constant (pos 0)) none f1 v in
-      let g = G s w signal (constant (pos 0)) none f1 v fits in
-      let st = new_static s w signal (constant (pos 0)) none f1 v fits in
-      let kn = kind_new s w signal (constant (pos 0)) none f1 v fits s.size refl in
-      ended signal (constant (pos 0)) none f1 v fits x
+      let m = made s w signal (constant (pos 0)) f1 v refl None fits (λ p e. none_some e) in
+      let x = node s signal (constant (pos 0)) None f1 v in
+      let g = G s w signal (constant (pos 0)) None f1 v fits in
+      let st = new_static s w signal (constant (pos 0)) None f1 v fits in
+      let kn = kind_new s w signal (constant (pos 0)) None f1 v fits s.size refl in
+      ended signal (constant (pos 0)) None f1 v fits x
       (let_out g nobody x s.size m.inside
       (rests_clean g st x.queue x.dep x.sub s.size _ _ _ _ _ (omega arith) (ap readable kn) m.flag m.owns.alive m.rest
       (subst (λ (z : List ℕ). length (read_links g.kind x.dep z) ≤ length (names (g.form s.size))) (sym m.done) (omega arith))))
       m.stuck m.queue m.depth
 
-  pub computed_well : (t : Tree) → Fits s computed t none → Well s (new_computed s t)
+  pub computed_well : (t : Tree) → Fits s computed t None → Well s (new_computed s t)
   unfolding new_computed read_links
   computed_well t fits =
-      let m = made s w computed t f0 nothing refl none fits (λ p e. none_some e) in
-      let x = node s computed t none f0 nothing in
-      let g = G s w computed t none f0 nothing fits in
-      let st = new_static s w computed t none f0 nothing fits in
-      let kn = kind_new s w computed t none f0 nothing fits s.size refl in
+      let m = made s w computed t f0 nothing refl None fits (λ p e. none_some e) in
+      let x = node s computed t None f0 nothing in
+      let g = G s w computed t None f0 nothing fits in
+      let st = new_static s w computed t None f0 nothing fits in
+      let kn = kind_new s w computed t None f0 nothing fits s.size refl in
       let rn = ap readable kn in
       let bare = m.owns.unowned (st.owner_kind s.size (omega arith) rn) in
       let r : Rests g x s.size = record {
@@ -309,7 +309,7 @@ module _ (s : St) (w : WellFormed s) where
         of_gone = λ q a. clash rn (ap readable q);
         queued = λ j a. m.flag;
       } in
-      ended computed t none f0 nothing fits x (let_out g nobody x s.size m.inside r) m.stuck m.queue m.depth
+      ended computed t None f0 nothing fits x (let_out g nobody x s.size m.inside r) m.stuck m.queue m.depth
 
   pub scope_well : (o : Option ℕ) → Fits s scope (constant (pos 0)) o → Well s (new_scope s o)
   unfolding new_scope read_links

@@ -1,9 +1,9 @@
 -- Making a node, where its refusals do not apply: the tables are well formed but for the new node, and its owner finds a slot for it. Assumes nothing.
+use Rattle.std.specs.Prelude.{Option, None, Some}
 use mathlib.Core.Path.{◌≡◌, refl, sym, ap, ap₂, ◌∙◌, subst}
 use mathlib.Core.Logic.{◌⊎◌, inl, inr}
 use mathlib.Core.Bool.{Bool, true, false}
 use mathlib.Core.List.{List, [], ◌∷◌, ◌++◌}
-use mathlib.Core.Option.{Option, none, some}
 use Prim.Native.Nat.{ℕ, suc, ◌+◌, ◌≤◌, ◌<◌, max}
 use native.Mathlib.Omega.{arith}
 use lib.Dec.{eqb, ltb}
@@ -31,13 +31,13 @@ tallest_same f g n h [] low = refl
 tallest_same f g n h (x ∷ ns) low = ap₂ max (h x (low x (inl refl))) (tallest_same f g n h ns (λ m i. low m (inr i)))
 
 level_same : (f g : ℕ → ℕ) (n : ℕ) → ((m : ℕ) → m < n → g m ≡ f m) → (k : Kind) (t : Tree) (o : Option ℕ)
-    → ((m : ℕ) → In m (names t) → m < n) → ((m : ℕ) → o ≡ some m → m < n) → level_of g k t o ≡ level_of f k t o
+    → ((m : ℕ) → In m (names t) → m < n) → ((m : ℕ) → o ≡ Some m → m < n) → level_of g k t o ≡ level_of f k t o
 level_same f g n h signal t o low own = refl
 level_same f g n h computed t o low own = ap suc (tallest_same f g n h (names t) low)
-level_same f g n h effect t none low own = refl
-level_same f g n h effect t (some o) low own = ap suc (h o (own o refl))
-level_same f g n h scope t none low own = refl
-level_same f g n h scope t (some o) low own = ap suc (h o (own o refl))
+level_same f g n h effect t None low own = refl
+level_same f g n h effect t (Some o) low own = ap suc (h o (own o refl))
+level_same f g n h scope t None low own = refl
+level_same f g n h scope t (Some o) low own = ap suc (h o (own o refl))
 
 reads_same : (f g : ℕ → Kind) (n : ℕ) → ((m : ℕ) → m < n → g m ≡ f m) → (dep : ℕ → ℕ) (ls : List ℕ) → ((l : ℕ) → In l ls → dep l < n) → read_links g dep ls ≡ read_links f dep ls
 unfolding read_links
@@ -56,8 +56,8 @@ pub record Fits (s : St) (k : Kind) (t : Tree) (o : Option ℕ) : Type 0 where
   pub few : size t ≤ most_cells
   pub shallow : nesting t ≤ most_nesting
   pub level : level_of s.level k t o ≤ most_level k
-  pub owner : (p : ℕ) → o ≡ some p → (p < s.size) × (readable (s.kind p) ≡ false) × (s.gone p ≡ false)
-  pub unowned : readable k ≡ true → o ≡ none
+  pub owner : (p : ℕ) → o ≡ Some p → (p < s.size) × (readable (s.kind p) ≡ false) × (s.gone p ≡ false)
+  pub unowned : readable k ≡ true → o ≡ None
   pub nameless : (k ≡ signal) ⊎ (k ≡ scope) → names t ≡ []
 
 module _ (s : St) (w : WellFormed s) (k : Kind) (t : Tree) (o : Option ℕ) (b : Named) (v : Value) (fits : Fits s k t o) where
@@ -157,7 +157,7 @@ module _ (s : St) (w : WellFormed s) (k : Kind) (t : Tree) (o : Option ℕ) (b :
   lower_names : (m : ℕ) → m < s.size → (x : ℕ) → In x (names (s.form m)) → x < s.size
   lower_names m h x i = let z = (w.limits.names_lower m x h i).1 in omega arith
 
-  lower_owner : (m : ℕ) → m < s.size → (x : ℕ) → s.owner m ≡ some x → x < s.size
+  lower_owner : (m : ℕ) → m < s.size → (x : ℕ) → s.owner m ≡ Some x → x < s.size
   lower_owner m h x q = let z = w.depends.owner_lower m x h q in omega arith
 
   pub new_static : Static G

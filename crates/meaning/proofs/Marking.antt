@@ -1,9 +1,9 @@
 -- Notify and propagate keep well-formedness and are not stuck: the walk ends in time, its stack holds at most as many lists as nodes, the queue each effect once. Assumes nothing.
+use Rattle.std.specs.Prelude.{Option, None, Some}
 use mathlib.Core.Path.{◌≡◌, refl, sym, ap, ap₂, ◌∙◌, subst}
 use mathlib.Core.Logic.{◌⊎◌, inl, inr}
 use mathlib.Core.Bool.{Bool, true, false, not, ◌&&◌, ◌||◌}
 use mathlib.Core.List.{List, [], ◌∷◌, ◌++◌, reverse, reverse_aux}
-use mathlib.Core.Option.{Option, none, some}
 use Prim.Native.Nat.{ℕ, zero, suc, ◌≤◌, ◌<◌}
 use native.Mathlib.Omega.{arith}
 use lib.Dec.{eqb, ltb}
@@ -122,7 +122,7 @@ module _ (g : Given) (st : Static g) (s : St) (i : Inside g nobody s) where
       go scope e = clash w (ap (λ (z : Named). z.watching) ((resting n h).of_scope e))
 
   -- its owner is live, and lower
-  owner_live : (n o : ℕ) → Awake n → g.owner n ≡ some o → (o < n) × (s.gone o ≡ false) × (readable (g.kind o) ≡ false)
+  owner_live : (n o : ℕ) → Awake n → g.owner n ≡ Some o → (o < n) × (s.gone o ≡ false) × (readable (g.kind o) ≡ false)
   owner_live n o w e =
       let x = (resting n w.low).owned o w.alive e in
       let lv = i.lists.subs_live x.0 n (subst (In x.0) (sym x.1) (inl refl)) in
@@ -152,9 +152,9 @@ module _ (g : Given) (st : Static g) (s : St) (i : Inside g nobody s) where
     chain_in (suc k) e le w x (inr j) = go (λ o a lt b. chain_in k o (omega arith) b x a) (g.owner e) refl j
       where
         go : ((o : ℕ) → In x (chain k g.owner f o) → o < e → Awake o → Awake x × (x ≤ o)) → (p : Option ℕ) → g.owner e ≡ p
-            → In x (elim p [ none ↦ [] | some o ↦ elim (f o).watching [ true ↦ chain k g.owner f o | false ↦ [] ] ]) → Awake x × (x ≤ e)
-        go rec none q z = absurd z
-        go rec (some o) q z =
+            → In x (elim p [ None ↦ [] | Some o ↦ elim (f o).watching [ true ↦ chain k g.owner f o | false ↦ [] ] ]) → Awake x × (x ≤ e)
+        go rec None q z = absurd z
+        go rec (Some o) q z =
             let ow = owner_live e o w q in
             let lt = ow.0 in
             let lw = w.low in
@@ -171,9 +171,9 @@ module _ (g : Given) (st : Static g) (s : St) (i : Inside g nobody s) where
     chain_once (suc k) e le w = go (λ o lt b. (chain_once k o (omega arith) b, λ j. let r = (chain_in k o (omega arith) b e j).1 in omega arith)) (g.owner e) refl
       where
         go : ((o : ℕ) → o < e → Awake o → Once (chain k g.owner f o) × (In e (chain k g.owner f o) → ⊥)) → (p : Option ℕ) → g.owner e ≡ p
-            → Once (e ∷ (elim p [ none ↦ [] | some o ↦ elim (f o).watching [ true ↦ chain k g.owner f o | false ↦ [] ] ]))
-        go rec none q = (λ j. j, tt)
-        go rec (some o) q =
+            → Once (e ∷ (elim p [ None ↦ [] | Some o ↦ elim (f o).watching [ true ↦ chain k g.owner f o | false ↦ [] ] ]))
+        go rec None q = (λ j. j, tt)
+        go rec (Some o) q =
             let ow = owner_live e o w q in
             let lt = ow.0 in
             let lw = w.low in

@@ -1,8 +1,8 @@
 -- Scripts answered by the Rust oracle, with the tables they leave: all as the definitions have it. Written by tools/diff-meaning.py with seed 2.
+use Rattle.std.specs.Prelude.{None, Some}
 use mathlib.Core.Path.{◌≡◌, refl, sym, ap, ◌∙◌}
 use mathlib.Core.Bool.{true, false}
 use mathlib.Core.List.{List, [], ◌∷◌}
-use mathlib.Core.Option.{none, some}
 use Prim.Native.Nat.{ℕ}
 use lib.IntN.{ℤ, pos, negsuc}
 use Rattle.values.specs.Values.{value}
@@ -57,7 +57,7 @@ script0 = script 256 2 2048 256
     ∷ (0, value (pos 1), [])
     ∷ (7, value (pos 0), [])
     ∷ [])
-    (0, 0, [], false, ((1, some (value (pos 0)), some (value (pos 0)), [], []) ∷ (0, none, none, [], []) ∷ []))
+    (0, 0, [], false, ((1, Some (value (pos 0)), Some (value (pos 0)), [], []) ∷ (0, None, None, [], []) ∷ []))
 
 abbrev script1 : Script
 script1 = script 256 1024 2048 256
@@ -175,7 +175,7 @@ script1 = script 256 1024 2048 256
     ∷ (0, value (pos 0), [])
     ∷ (0, value (pos 7), [])
     ∷ [])
-    (0, 0, [], false, ((1, some (value (pos 0)), some (value (pos 0)), [], []) ∷ (0, none, none, [], []) ∷ (1, some (value (pos 7)), none, [], []) ∷ (2, none, none, [], []) ∷ []))
+    (0, 0, [], false, ((1, Some (value (pos 0)), Some (value (pos 0)), [], []) ∷ (0, None, None, [], []) ∷ (1, Some (value (pos 7)), None, [], []) ∷ (2, None, None, [], []) ∷ []))
 
 abbrev script2 : Script
 script2 = script 3 3 4 0
@@ -209,7 +209,7 @@ script2 = script 3 3 4 0
     ∷ (0, value (pos 6), [])
     ∷ (0, value (pos 2), [])
     ∷ [])
-    (0, 0, [], false, ((1, some (value (pos 6)), some (value (pos 6)), [], ((1, 0) ∷ [])) ∷ (1, some (value (pos 6)), none, ((0, 0) ∷ []), []) ∷ (1, some (value (pos 2)), none, [], []) ∷ []))
+    (0, 0, [], false, ((1, Some (value (pos 6)), Some (value (pos 6)), [], ((1, 0) ∷ [])) ∷ (1, Some (value (pos 6)), None, ((0, 0) ∷ []), []) ∷ (1, Some (value (pos 2)), None, [], []) ∷ []))
 
 abbrev script3 : Script
 script3 = script 256 1024 2048 1
@@ -247,7 +247,7 @@ script3 = script 256 1024 2048 1
     ∷ (0, value (pos 0), ((2, value (pos 3)) ∷ []))
     ∷ (0, value (pos 0), [])
     ∷ [])
-    (0, 1, [], false, ((1, some (value (pos 3)), some (value (pos 3)), [], ((2, 1) ∷ [])) ∷ (17, some (value (pos 0)), some (value (pos 4)), [], []) ∷ (2, none, none, ((0, 1) ∷ []), []) ∷ (0, none, none, [], []) ∷ []))
+    (0, 1, [], false, ((1, Some (value (pos 3)), Some (value (pos 3)), [], ((2, 1) ∷ [])) ∷ (17, Some (value (pos 0)), Some (value (pos 4)), [], []) ∷ (2, None, None, ((0, 1) ∷ []), []) ∷ (0, None, None, [], []) ∷ []))
 
 abbrev script4 : Script
 script4 = script 256 1024 2048 256
@@ -295,7 +295,7 @@ script4 = script 256 1024 2048 256
     ∷ (0, value (pos 0), [])
     ∷ (4, value (pos 0), [])
     ∷ [])
-    (0, 0, [], false, ((0, none, none, [], []) ∷ (0, none, none, [], []) ∷ (0, none, none, [], []) ∷ (0, none, none, [], []) ∷ (0, none, none, [], []) ∷ (0, none, none, [], []) ∷ (0, none, none, [], []) ∷ (0, none, none, [], []) ∷ (0, none, none, [], []) ∷ (0, none, none, [], []) ∷ (0, none, none, [], []) ∷ (0, none, none, [], []) ∷ (0, none, none, [], []) ∷ (0, none, none, [], []) ∷ (0, none, none, [], []) ∷ (0, none, none, [], []) ∷ (0, none, none, [], []) ∷ []))
+    (0, 0, [], false, ((0, None, None, [], []) ∷ (0, None, None, [], []) ∷ (0, None, None, [], []) ∷ (0, None, None, [], []) ∷ (0, None, None, [], []) ∷ (0, None, None, [], []) ∷ (0, None, None, [], []) ∷ (0, None, None, [], []) ∷ (0, None, None, [], []) ∷ (0, None, None, [], []) ∷ (0, None, None, [], []) ∷ (0, None, None, [], []) ∷ (0, None, None, [], []) ∷ (0, None, None, [], []) ∷ (0, None, None, [], []) ∷ (0, None, None, [], []) ∷ (0, None, None, [], []) ∷ []))
 
 abbrev script5 : Script
 script5 = script 256 1024 2048 256
@@ -313,7 +313,7 @@ script5 = script 256 1024 2048 256
     ∷ (0, value (pos 2), [])
     ∷ (0, value (negsuc 13), [])
     ∷ [])
-    (0, 0, [], false, ((1, some (value (pos 16)), none, [], []) ∷ (0, none, none, [], []) ∷ (1, some (value (negsuc 13)), none, [], []) ∷ []))
+    (0, 0, [], false, ((1, Some (value (pos 16)), None, [], []) ∷ (0, None, None, [], []) ∷ (1, Some (value (negsuc 13)), None, [], []) ∷ []))
 
 abbrev script6 : Script
 script6 = script 256 4 2048 256
@@ -345,7 +345,7 @@ script6 = script 256 4 2048 256
     ∷ (0, value (pos 6), [])
     ∷ (7, value (pos 0), [])
     ∷ [])
-    (0, 1, [], false, ((1, some (value (pos 1)), some (value (pos 1)), [], ((3, 1) ∷ [])) ∷ (0, none, none, [], []) ∷ (0, none, none, [], []) ∷ (2, none, none, ((0, 1) ∷ []), []) ∷ (0, none, none, [], []) ∷ (0, none, none, [], []) ∷ (0, none, none, [], []) ∷ []))
+    (0, 1, [], false, ((1, Some (value (pos 1)), Some (value (pos 1)), [], ((3, 1) ∷ [])) ∷ (0, None, None, [], []) ∷ (0, None, None, [], []) ∷ (2, None, None, ((0, 1) ∷ []), []) ∷ (0, None, None, [], []) ∷ (0, None, None, [], []) ∷ (0, None, None, [], []) ∷ []))
 
 abbrev script7 : Script
 script7 = script 256 3 2048 256
@@ -359,7 +359,7 @@ script7 = script 256 3 2048 256
     ∷ (7, value (pos 0), [])
     ∷ (0, value (pos 7), [])
     ∷ [])
-    (0, 0, [], false, ((1, some (value (pos 0)), some (value (pos 0)), [], []) ∷ (1, some (value (pos 7)), none, [], []) ∷ []))
+    (0, 0, [], false, ((1, Some (value (pos 0)), Some (value (pos 0)), [], []) ∷ (1, Some (value (pos 7)), None, [], []) ∷ []))
 
 abbrev script8 : Script
 script8 = script 256 1024 2048 256
@@ -381,7 +381,7 @@ script8 = script 256 1024 2048 256
     ∷ (0, value (pos 0), [])
     ∷ (0, value (pos 0), ((2, value (pos 1)) ∷ (3, value (pos 1)) ∷ []))
     ∷ [])
-    (0, 2, [], false, ((1, some (value (pos 1)), some (value (pos 1)), [], ((2, 1) ∷ [])) ∷ (1, some (value (pos 1)), some (value (pos 1)), [], ((3, 2) ∷ [])) ∷ (2, none, none, ((0, 1) ∷ []), []) ∷ (2, none, none, ((1, 2) ∷ []), []) ∷ []))
+    (0, 2, [], false, ((1, Some (value (pos 1)), Some (value (pos 1)), [], ((2, 1) ∷ [])) ∷ (1, Some (value (pos 1)), Some (value (pos 1)), [], ((3, 2) ∷ [])) ∷ (2, None, None, ((0, 1) ∷ []), []) ∷ (2, None, None, ((1, 2) ∷ []), []) ∷ []))
 
 abbrev script9 : Script
 script9 = script 256 1024 2048 256
@@ -399,7 +399,7 @@ script9 = script 256 1024 2048 256
     ∷ (0, value (pos 4), ((4, value (pos 12)) ∷ []))
     ∷ (0, value (pos 0), ((4, value (pos 13)) ∷ []))
     ∷ [])
-    (0, 1, [], false, ((1, some (value (pos 0)), some (value (pos 0)), [], ((4, 1) ∷ [])) ∷ (1, some (value (pos 5)), some (value (pos 5)), [], []) ∷ (1, some (value (pos 6)), some (value (pos 6)), [], ((4, 1) ∷ [])) ∷ (1, some (value (pos 7)), some (value (pos 7)), [], ((4, 1) ∷ [])) ∷ (2, none, none, ((0, 1) ∷ (2, 1) ∷ (3, 1) ∷ []), []) ∷ []))
+    (0, 1, [], false, ((1, Some (value (pos 0)), Some (value (pos 0)), [], ((4, 1) ∷ [])) ∷ (1, Some (value (pos 5)), Some (value (pos 5)), [], []) ∷ (1, Some (value (pos 6)), Some (value (pos 6)), [], ((4, 1) ∷ [])) ∷ (1, Some (value (pos 7)), Some (value (pos 7)), [], ((4, 1) ∷ [])) ∷ (2, None, None, ((0, 1) ∷ (2, 1) ∷ (3, 1) ∷ []), []) ∷ []))
 
 abbrev script10 : Script
 script10 = script 256 1024 2048 256
@@ -483,7 +483,7 @@ script10 = script 256 1024 2048 256
     ∷ (5, value (pos 0), [])
     ∷ (5, value (pos 0), [])
     ∷ [])
-    (0, 0, [], false, ((1, some (value (pos 5)), none, [], []) ∷ (1, some (value (negsuc 0)), none, [], []) ∷ (1, some (value (pos 2)), none, [], []) ∷ (1, some (value (pos 2)), none, [], []) ∷ (1, some (value (pos 3)), none, [], []) ∷ (1, some (value (pos 3)), none, [], []) ∷ (1, some (value (pos 1)), none, [], []) ∷ (1, some (value (pos 0)), none, [], []) ∷ (1, some (value (pos 0)), none, [], []) ∷ (1, some (value (pos 1)), none, [], []) ∷ (1, some (value (pos 10)), none, [], []) ∷ (1, some (value (pos 20)), none, [], []) ∷ (1, some (value (pos 10)), none, [], []) ∷ (1, some (value (pos 1)), none, [], []) ∷ (1, some (value (pos 7)), none, [], []) ∷ (1, some (value (negsuc 4)), none, [], []) ∷ []))
+    (0, 0, [], false, ((1, Some (value (pos 5)), None, [], []) ∷ (1, Some (value (negsuc 0)), None, [], []) ∷ (1, Some (value (pos 2)), None, [], []) ∷ (1, Some (value (pos 2)), None, [], []) ∷ (1, Some (value (pos 3)), None, [], []) ∷ (1, Some (value (pos 3)), None, [], []) ∷ (1, Some (value (pos 1)), None, [], []) ∷ (1, Some (value (pos 0)), None, [], []) ∷ (1, Some (value (pos 0)), None, [], []) ∷ (1, Some (value (pos 1)), None, [], []) ∷ (1, Some (value (pos 10)), None, [], []) ∷ (1, Some (value (pos 20)), None, [], []) ∷ (1, Some (value (pos 10)), None, [], []) ∷ (1, Some (value (pos 1)), None, [], []) ∷ (1, Some (value (pos 7)), None, [], []) ∷ (1, Some (value (negsuc 4)), None, [], []) ∷ []))
 
 abbrev script11 : Script
 script11 = script 256 1024 2048 256
@@ -499,7 +499,7 @@ script11 = script 256 1024 2048 256
     ∷ (0, value (pos 3), ((3, value (pos 11)) ∷ []))
     ∷ (0, value (pos 0), ((3, value (pos 10)) ∷ []))
     ∷ [])
-    (0, 1, [], false, ((1, some (value (pos 1)), some (value (pos 1)), [], ((3, 1) ∷ [])) ∷ (1, some (value (pos 5)), some (value (pos 5)), [], ((3, 1) ∷ [])) ∷ (1, some (value (pos 6)), some (value (pos 6)), [], []) ∷ (2, none, none, ((0, 1) ∷ (1, 1) ∷ []), []) ∷ []))
+    (0, 1, [], false, ((1, Some (value (pos 1)), Some (value (pos 1)), [], ((3, 1) ∷ [])) ∷ (1, Some (value (pos 5)), Some (value (pos 5)), [], ((3, 1) ∷ [])) ∷ (1, Some (value (pos 6)), Some (value (pos 6)), [], []) ∷ (2, None, None, ((0, 1) ∷ (1, 1) ∷ []), []) ∷ []))
 
 abbrev script12 : Script
 script12 = script 256 1024 2048 256
@@ -519,7 +519,7 @@ script12 = script 256 1024 2048 256
     ∷ (0, value (pos 0), [])
     ∷ (0, value (pos 0), ((1, value (pos 0)) ∷ (2, value (pos 0)) ∷ []))
     ∷ [])
-    (0, 2, [], false, ((1, some (value (pos 0)), some (value (pos 0)), [], ((1, 1) ∷ (2, 2) ∷ [])) ∷ (2, none, none, ((0, 1) ∷ []), []) ∷ (2, none, none, ((0, 2) ∷ []), []) ∷ []))
+    (0, 2, [], false, ((1, Some (value (pos 0)), Some (value (pos 0)), [], ((1, 1) ∷ (2, 2) ∷ [])) ∷ (2, None, None, ((0, 1) ∷ []), []) ∷ (2, None, None, ((0, 2) ∷ []), []) ∷ []))
 
 abbrev script13 : Script
 script13 = script 256 1024 2048 256
@@ -545,7 +545,7 @@ script13 = script 256 1024 2048 256
     ∷ (0, value (pos 0), ((4, value (pos 1)) ∷ (2, value (pos 1)) ∷ []))
     ∷ (4, value (pos 0), [])
     ∷ [])
-    (0, 2, [], false, ((1, some (value (pos 1)), some (value (pos 1)), [], ((2, 2) ∷ [])) ∷ (1, some (value (pos 1)), some (value (pos 1)), [], []) ∷ (2, none, none, ((0, 2) ∷ []), []) ∷ (0, none, none, [], []) ∷ (0, none, none, [], []) ∷ []))
+    (0, 2, [], false, ((1, Some (value (pos 1)), Some (value (pos 1)), [], ((2, 2) ∷ [])) ∷ (1, Some (value (pos 1)), Some (value (pos 1)), [], []) ∷ (2, None, None, ((0, 2) ∷ []), []) ∷ (0, None, None, [], []) ∷ (0, None, None, [], []) ∷ []))
 
 abbrev script14 : Script
 script14 = script 256 1024 2048 256
@@ -571,7 +571,7 @@ script14 = script 256 1024 2048 256
     ∷ (0, value (pos 0), ((2, value (pos 1)) ∷ []))
     ∷ (4, value (pos 0), [])
     ∷ [])
-    (0, 1, [], false, ((1, some (value (pos 1)), some (value (pos 1)), [], ((2, 1) ∷ [])) ∷ (17, some (value (pos 0)), some (value (pos 1)), [], []) ∷ (2, none, none, ((0, 1) ∷ []), []) ∷ (0, none, none, [], []) ∷ (2, none, none, [], []) ∷ []))
+    (0, 1, [], false, ((1, Some (value (pos 1)), Some (value (pos 1)), [], ((2, 1) ∷ [])) ∷ (17, Some (value (pos 0)), Some (value (pos 1)), [], []) ∷ (2, None, None, ((0, 1) ∷ []), []) ∷ (0, None, None, [], []) ∷ (2, None, None, [], []) ∷ []))
 
 abbrev script15 : Script
 script15 = script 256 1024 2048 256
@@ -593,7 +593,7 @@ script15 = script 256 1024 2048 256
     ∷ (0, value (pos 5), [])
     ∷ (0, value (pos 0), ((1, value (pos 5)) ∷ []))
     ∷ [])
-    (0, 1, [], false, ((1, some (value (pos 5)), some (value (pos 5)), [], ((1, 1) ∷ [])) ∷ (2, none, none, ((0, 1) ∷ []), []) ∷ []))
+    (0, 1, [], false, ((1, Some (value (pos 5)), Some (value (pos 5)), [], ((1, 1) ∷ [])) ∷ (2, None, None, ((0, 1) ∷ []), []) ∷ []))
 
 abbrev script16 : Script
 script16 = script 12 28 60 3
@@ -609,7 +609,7 @@ script16 = script 12 28 60 3
     ∷ (0, value (pos 3), ((3, value (pos 0)) ∷ []))
     ∷ (0, value (pos 0), ((2, value (pos 4)) ∷ (3, value (pos 4)) ∷ []))
     ∷ [])
-    (0, 3, [], false, ((1, some (value (pos 4)), some (value (pos 4)), [], ((1, 1) ∷ (3, 3) ∷ [])) ∷ (1, some (value (pos 4)), none, ((0, 1) ∷ []), ((2, 2) ∷ [])) ∷ (2, none, none, ((1, 2) ∷ []), []) ∷ (2, none, none, ((0, 3) ∷ []), []) ∷ []))
+    (0, 3, [], false, ((1, Some (value (pos 4)), Some (value (pos 4)), [], ((1, 1) ∷ (3, 3) ∷ [])) ∷ (1, Some (value (pos 4)), None, ((0, 1) ∷ []), ((2, 2) ∷ [])) ∷ (2, None, None, ((1, 2) ∷ []), []) ∷ (2, None, None, ((0, 3) ∷ []), []) ∷ []))
 
 abbrev script17 : Script
 script17 = script 12 28 60 3
@@ -633,7 +633,7 @@ script17 = script 12 28 60 3
     ∷ (0, value (pos 0), [])
     ∷ (0, value (pos 0), ((2, value (pos 4)) ∷ []))
     ∷ [])
-    (0, 1, [], false, ((1, some (value (pos 4)), some (value (pos 4)), [], ((2, 1) ∷ [])) ∷ (17, some (value (pos 0)), some (value (pos 9)), [], []) ∷ (2, none, none, ((0, 1) ∷ []), []) ∷ (2, none, none, [], []) ∷ (2, none, none, [], []) ∷ []))
+    (0, 1, [], false, ((1, Some (value (pos 4)), Some (value (pos 4)), [], ((2, 1) ∷ [])) ∷ (17, Some (value (pos 0)), Some (value (pos 9)), [], []) ∷ (2, None, None, ((0, 1) ∷ []), []) ∷ (2, None, None, [], []) ∷ (2, None, None, [], []) ∷ []))
 
 abbrev script18 : Script
 script18 = script 12 28 60 3
@@ -657,7 +657,7 @@ script18 = script 12 28 60 3
     ∷ (0, value (pos 0), [])
     ∷ (0, value (pos 0), ((4, value (pos 9)) ∷ (2, value (pos 4)) ∷ []))
     ∷ [])
-    (0, 2, [], false, ((1, some (value (pos 4)), some (value (pos 4)), [], ((2, 2) ∷ [])) ∷ (1, some (value (pos 9)), some (value (pos 9)), [], []) ∷ (2, none, none, ((0, 2) ∷ []), []) ∷ (0, none, none, [], []) ∷ (0, none, none, [], []) ∷ []))
+    (0, 2, [], false, ((1, Some (value (pos 4)), Some (value (pos 4)), [], ((2, 2) ∷ [])) ∷ (1, Some (value (pos 9)), Some (value (pos 9)), [], []) ∷ (2, None, None, ((0, 2) ∷ []), []) ∷ (0, None, None, [], []) ∷ (0, None, None, [], []) ∷ []))
 
 abbrev script19 : Script
 script19 = script 12 28 60 3
@@ -679,7 +679,7 @@ script19 = script 12 28 60 3
     ∷ (0, value (pos 0), [])
     ∷ (0, value (pos 0), [])
     ∷ [])
-    (1, 0, (3 ∷ 4 ∷ 5 ∷ []), false, ((1, some (value (pos 0)), some (value (pos 0)), [], ((3, 0) ∷ [])) ∷ (1, some (value (pos 0)), some (value (pos 0)), [], ((4, 0) ∷ [])) ∷ (17, some (value (pos 0)), some (value (pos 9)), [], ((5, 0) ∷ [])) ∷ (0, none, none, ((0, 0) ∷ (4, 0) ∷ []), []) ∷ (0, none, none, ((1, 0) ∷ (5, 0) ∷ []), ((3, 0) ∷ [])) ∷ (32, none, none, ((2, 0) ∷ []), ((4, 0) ∷ [])) ∷ []))
+    (1, 0, (3 ∷ 4 ∷ 5 ∷ []), false, ((1, Some (value (pos 0)), Some (value (pos 0)), [], ((3, 0) ∷ [])) ∷ (1, Some (value (pos 0)), Some (value (pos 0)), [], ((4, 0) ∷ [])) ∷ (17, Some (value (pos 0)), Some (value (pos 9)), [], ((5, 0) ∷ [])) ∷ (0, None, None, ((0, 0) ∷ (4, 0) ∷ []), []) ∷ (0, None, None, ((1, 0) ∷ (5, 0) ∷ []), ((3, 0) ∷ [])) ∷ (32, None, None, ((2, 0) ∷ []), ((4, 0) ∷ [])) ∷ []))
 
 abbrev script20 : Script
 script20 = script 12 28 60 3
@@ -771,7 +771,7 @@ script20 = script 12 28 60 3
     ∷ (0, value (pos 0), [])
     ∷ (0, value (pos 0), ((5, value (negsuc 0)) ∷ (6, value (negsuc 0)) ∷ []))
     ∷ [])
-    (0, 49, [], false, ((1, some (value (negsuc 0)), some (value (negsuc 0)), [], ((3, 46) ∷ (2, 47) ∷ [])) ∷ (1, some (value (pos 1)), some (value (pos 1)), [], ((4, 48) ∷ (2, 47) ∷ [])) ∷ (1, some (value (negsuc 0)), none, ((0, 47) ∷ (1, 47) ∷ []), ((6, 49) ∷ (4, 48) ∷ [])) ∷ (1, some (value (pos 0)), none, ((0, 46) ∷ []), ((5, 46) ∷ (5, 48) ∷ (6, 49) ∷ (4, 48) ∷ [])) ∷ (1, some (value (negsuc 0)), none, ((1, 48) ∷ (2, 48) ∷ (3, 48) ∷ []), ((5, 48) ∷ [])) ∷ (2, none, none, ((3, 46) ∷ (4, 48) ∷ (3, 48) ∷ []), []) ∷ (2, none, none, ((3, 49) ∷ (2, 49) ∷ []), []) ∷ (0, none, none, [], []) ∷ (0, none, none, [], []) ∷ []))
+    (0, 49, [], false, ((1, Some (value (negsuc 0)), Some (value (negsuc 0)), [], ((3, 46) ∷ (2, 47) ∷ [])) ∷ (1, Some (value (pos 1)), Some (value (pos 1)), [], ((4, 48) ∷ (2, 47) ∷ [])) ∷ (1, Some (value (negsuc 0)), None, ((0, 47) ∷ (1, 47) ∷ []), ((6, 49) ∷ (4, 48) ∷ [])) ∷ (1, Some (value (pos 0)), None, ((0, 46) ∷ []), ((5, 46) ∷ (5, 48) ∷ (6, 49) ∷ (4, 48) ∷ [])) ∷ (1, Some (value (negsuc 0)), None, ((1, 48) ∷ (2, 48) ∷ (3, 48) ∷ []), ((5, 48) ∷ [])) ∷ (2, None, None, ((3, 46) ∷ (4, 48) ∷ (3, 48) ∷ []), []) ∷ (2, None, None, ((3, 49) ∷ (2, 49) ∷ []), []) ∷ (0, None, None, [], []) ∷ (0, None, None, [], []) ∷ []))
 
 abbrev script21 : Script
 script21 = script 12 28 60 3
@@ -857,7 +857,7 @@ script21 = script 12 28 60 3
     ∷ (0, value (pos 0), [])
     ∷ (4, value (pos 0), [])
     ∷ [])
-    (0, 15, [], false, ((1, some (value (pos 0)), some (value (pos 0)), [], ((2, 14) ∷ (4, 15) ∷ (8, 15) ∷ [])) ∷ (1, some (value (pos 0)), some (value (pos 0)), [], ((2, 14) ∷ (2, 14) ∷ [])) ∷ (2, none, none, ((1, 14) ∷ (0, 14) ∷ (1, 14) ∷ []), []) ∷ (0, none, none, [], []) ∷ (2, none, none, ((0, 15) ∷ []), []) ∷ (0, none, none, [], []) ∷ (2, none, none, [], []) ∷ (17, some (value (pos 0)), some (value (negsuc 38)), [], []) ∷ (2, none, none, ((0, 15) ∷ []), []) ∷ []))
+    (0, 15, [], false, ((1, Some (value (pos 0)), Some (value (pos 0)), [], ((2, 14) ∷ (4, 15) ∷ (8, 15) ∷ [])) ∷ (1, Some (value (pos 0)), Some (value (pos 0)), [], ((2, 14) ∷ (2, 14) ∷ [])) ∷ (2, None, None, ((1, 14) ∷ (0, 14) ∷ (1, 14) ∷ []), []) ∷ (0, None, None, [], []) ∷ (2, None, None, ((0, 15) ∷ []), []) ∷ (0, None, None, [], []) ∷ (2, None, None, [], []) ∷ (17, Some (value (pos 0)), Some (value (negsuc 38)), [], []) ∷ (2, None, None, ((0, 15) ∷ []), []) ∷ []))
 
 abbrev script22 : Script
 script22 = script 12 28 60 3
@@ -943,7 +943,7 @@ script22 = script 12 28 60 3
     ∷ (0, value (pos 0), [])
     ∷ (0, value (pos 0), ((4, value (pos 69)) ∷ (6, value (pos 161)) ∷ []))
     ∷ [])
-    (0, 22, [], false, ((1, some (value (pos 1)), some (value (pos 1)), [], []) ∷ (1, some (value (pos 23)), some (value (pos 23)), [], ((4, 20) ∷ (2, 21) ∷ (6, 22) ∷ [])) ∷ (1, some (value (pos 69)), none, ((1, 21) ∷ []), ((4, 21) ∷ (6, 22) ∷ [])) ∷ (0, none, none, [], []) ∷ (2, none, none, ((1, 20) ∷ (2, 21) ∷ []), []) ∷ (0, none, none, [], []) ∷ (2, none, none, ((2, 22) ∷ (1, 22) ∷ []), []) ∷ []))
+    (0, 22, [], false, ((1, Some (value (pos 1)), Some (value (pos 1)), [], []) ∷ (1, Some (value (pos 23)), Some (value (pos 23)), [], ((4, 20) ∷ (2, 21) ∷ (6, 22) ∷ [])) ∷ (1, Some (value (pos 69)), None, ((1, 21) ∷ []), ((4, 21) ∷ (6, 22) ∷ [])) ∷ (0, None, None, [], []) ∷ (2, None, None, ((1, 20) ∷ (2, 21) ∷ []), []) ∷ (0, None, None, [], []) ∷ (2, None, None, ((2, 22) ∷ (1, 22) ∷ []), []) ∷ []))
 
 abbrev script23 : Script
 script23 = script 12 28 60 3
@@ -1029,7 +1029,7 @@ script23 = script 12 28 60 3
     ∷ (0, value (negsuc 9223372036854775807), [])
     ∷ (0, value (pos 0), ((4, value (negsuc 9223372036854775807)) ∷ (5, value (negsuc 9223372036854775807)) ∷ []))
     ∷ [])
-    (0, 26, [], false, ((1, some (value (negsuc 9223372036854775807)), some (value (negsuc 9223372036854775807)), [], ((4, 23) ∷ (2, 24) ∷ (5, 26) ∷ (6, 21) ∷ [])) ∷ (1, some (value (pos 0)), some (value (pos 0)), [], ((4, 23) ∷ (2, 24) ∷ [])) ∷ (1, some (value (pos 0)), none, ((1, 24) ∷ (0, 24) ∷ []), ((3, 25) ∷ (6, 21) ∷ [])) ∷ (1, some (value (pos 0)), none, ((2, 25) ∷ []), ((5, 26) ∷ [])) ∷ (2, none, none, ((1, 23) ∷ (0, 23) ∷ []), []) ∷ (2, none, none, ((3, 26) ∷ (0, 26) ∷ []), []) ∷ (49, some (value (negsuc 9223372036854775807)), none, ((0, 21) ∷ (2, 21) ∷ []), ((7, 22) ∷ [])) ∷ (33, some (value (negsuc 9223372036854775807)), none, ((6, 22) ∷ []), []) ∷ (0, none, none, [], []) ∷ (0, none, none, [], []) ∷ []))
+    (0, 26, [], false, ((1, Some (value (negsuc 9223372036854775807)), Some (value (negsuc 9223372036854775807)), [], ((4, 23) ∷ (2, 24) ∷ (5, 26) ∷ (6, 21) ∷ [])) ∷ (1, Some (value (pos 0)), Some (value (pos 0)), [], ((4, 23) ∷ (2, 24) ∷ [])) ∷ (1, Some (value (pos 0)), None, ((1, 24) ∷ (0, 24) ∷ []), ((3, 25) ∷ (6, 21) ∷ [])) ∷ (1, Some (value (pos 0)), None, ((2, 25) ∷ []), ((5, 26) ∷ [])) ∷ (2, None, None, ((1, 23) ∷ (0, 23) ∷ []), []) ∷ (2, None, None, ((3, 26) ∷ (0, 26) ∷ []), []) ∷ (49, Some (value (negsuc 9223372036854775807)), None, ((0, 21) ∷ (2, 21) ∷ []), ((7, 22) ∷ [])) ∷ (33, Some (value (negsuc 9223372036854775807)), None, ((6, 22) ∷ []), []) ∷ (0, None, None, [], []) ∷ (0, None, None, [], []) ∷ []))
 
 abbrev script24 : Script
 script24 = script 12 28 60 3
@@ -1117,7 +1117,7 @@ script24 = script 12 28 60 3
     ∷ (0, value (pos 0), [])
     ∷ (0, value (pos 0), ((5, value (pos 6)) ∷ []))
     ∷ [])
-    (0, 16, [], false, ((1, some (value (pos 6)), some (value (pos 6)), [], ((4, 15) ∷ [])) ∷ (1, some (value (pos 0)), some (value (pos 0)), [], ((4, 15) ∷ [])) ∷ (2, none, none, [], []) ∷ (0, none, none, [], []) ∷ (1, some (value (pos 6)), none, ((1, 15) ∷ (0, 15) ∷ []), ((5, 16) ∷ [])) ∷ (2, none, none, ((4, 16) ∷ []), []) ∷ (0, none, none, [], []) ∷ (0, none, none, [], []) ∷ (17, some (value (pos 13)), some (value (pos 13)), [], []) ∷ []))
+    (0, 16, [], false, ((1, Some (value (pos 6)), Some (value (pos 6)), [], ((4, 15) ∷ [])) ∷ (1, Some (value (pos 0)), Some (value (pos 0)), [], ((4, 15) ∷ [])) ∷ (2, None, None, [], []) ∷ (0, None, None, [], []) ∷ (1, Some (value (pos 6)), None, ((1, 15) ∷ (0, 15) ∷ []), ((5, 16) ∷ [])) ∷ (2, None, None, ((4, 16) ∷ []), []) ∷ (0, None, None, [], []) ∷ (0, None, None, [], []) ∷ (17, Some (value (pos 13)), Some (value (pos 13)), [], []) ∷ []))
 
 abbrev script25 : Script
 script25 = script 9 14 30 2
@@ -1205,7 +1205,7 @@ script25 = script 9 14 30 2
     ∷ (0, value (pos 2), [])
     ∷ (0, value (pos 0), ((2, value (pos 4)) ∷ []))
     ∷ [])
-    (0, 17, [], false, ((1, some (value (pos 0)), some (value (pos 0)), [], ((2, 17) ∷ (3, 16) ∷ [])) ∷ (1, some (value (pos 2)), some (value (pos 2)), [], ((2, 17) ∷ (3, 16) ∷ (2, 17) ∷ [])) ∷ (2, none, none, ((1, 17) ∷ (0, 17) ∷ (1, 17) ∷ []), []) ∷ (1, some (value (pos 2)), none, ((0, 16) ∷ (1, 16) ∷ []), []) ∷ []))
+    (0, 17, [], false, ((1, Some (value (pos 0)), Some (value (pos 0)), [], ((2, 17) ∷ (3, 16) ∷ [])) ∷ (1, Some (value (pos 2)), Some (value (pos 2)), [], ((2, 17) ∷ (3, 16) ∷ (2, 17) ∷ [])) ∷ (2, None, None, ((1, 17) ∷ (0, 17) ∷ (1, 17) ∷ []), []) ∷ (1, Some (value (pos 2)), None, ((0, 16) ∷ (1, 16) ∷ []), []) ∷ []))
 
 abbrev script26 : Script
 script26 = script 9 14 30 2
@@ -1291,7 +1291,7 @@ script26 = script 9 14 30 2
     ∷ (0, value (pos 0), ((3, value (pos 2)) ∷ []))
     ∷ (0, value (pos 0), [])
     ∷ [])
-    (0, 12, [], false, ((1, some (value (pos 0)), some (value (pos 0)), [], ((3, 12) ∷ [])) ∷ (1, some (value (pos 2)), some (value (pos 2)), [], ((3, 12) ∷ [])) ∷ (0, none, none, [], []) ∷ (2, none, none, ((0, 12) ∷ (1, 12) ∷ []), []) ∷ (0, none, none, [], []) ∷ (1, some (value (negsuc 0)), some (value (negsuc 0)), [], []) ∷ (0, none, none, [], []) ∷ (0, none, none, [], []) ∷ (0, none, none, [], []) ∷ []))
+    (0, 12, [], false, ((1, Some (value (pos 0)), Some (value (pos 0)), [], ((3, 12) ∷ [])) ∷ (1, Some (value (pos 2)), Some (value (pos 2)), [], ((3, 12) ∷ [])) ∷ (0, None, None, [], []) ∷ (2, None, None, ((0, 12) ∷ (1, 12) ∷ []), []) ∷ (0, None, None, [], []) ∷ (1, Some (value (negsuc 0)), Some (value (negsuc 0)), [], []) ∷ (0, None, None, [], []) ∷ (0, None, None, [], []) ∷ (0, None, None, [], []) ∷ []))
 
 abbrev script27 : Script
 script27 = script 9 14 30 2
@@ -1377,7 +1377,7 @@ script27 = script 9 14 30 2
     ∷ (0, value (pos 0), [])
     ∷ (0, value (pos 9223372036854775807), [])
     ∷ [])
-    (0, 14, [], false, ((1, some (value (negsuc 0)), some (value (negsuc 0)), [], ((7, 14) ∷ [])) ∷ (1, some (value (pos 9223372036854775807)), some (value (pos 9223372036854775807)), [], ((3, 12) ∷ [])) ∷ (0, none, none, [], []) ∷ (1, some (value (pos 9223372036854775807)), none, ((1, 12) ∷ []), ((6, 13) ∷ (7, 14) ∷ [])) ∷ (17, some (value (pos 0)), some (value (pos 0)), [], []) ∷ (0, none, none, [], []) ∷ (2, none, none, ((3, 13) ∷ []), []) ∷ (2, none, none, ((0, 14) ∷ (3, 14) ∷ []), []) ∷ (1, some (value (negsuc 9223372036854775807)), some (value (negsuc 9223372036854775807)), [], []) ∷ []))
+    (0, 14, [], false, ((1, Some (value (negsuc 0)), Some (value (negsuc 0)), [], ((7, 14) ∷ [])) ∷ (1, Some (value (pos 9223372036854775807)), Some (value (pos 9223372036854775807)), [], ((3, 12) ∷ [])) ∷ (0, None, None, [], []) ∷ (1, Some (value (pos 9223372036854775807)), None, ((1, 12) ∷ []), ((6, 13) ∷ (7, 14) ∷ [])) ∷ (17, Some (value (pos 0)), Some (value (pos 0)), [], []) ∷ (0, None, None, [], []) ∷ (2, None, None, ((3, 13) ∷ []), []) ∷ (2, None, None, ((0, 14) ∷ (3, 14) ∷ []), []) ∷ (1, Some (value (negsuc 9223372036854775807)), Some (value (negsuc 9223372036854775807)), [], []) ∷ []))
 
 abbrev script28 : Script
 script28 = script 9 14 30 2
@@ -1487,7 +1487,7 @@ script28 = script 9 14 30 2
     ∷ (0, value (pos 0), [])
     ∷ (0, value (pos 0), [])
     ∷ [])
-    (0, 11, [], false, ((1, some (value (pos 33)), some (value (pos 33)), [], ((3, 11) ∷ [])) ∷ (1, some (value (negsuc 9223372036854775807)), some (value (negsuc 9223372036854775807)), [], ((3, 11) ∷ (4, 10) ∷ [])) ∷ (0, none, none, [], []) ∷ (2, none, none, ((0, 11) ∷ (1, 11) ∷ []), []) ∷ (2, none, none, ((1, 10) ∷ []), []) ∷ (0, none, none, [], []) ∷ []))
+    (0, 11, [], false, ((1, Some (value (pos 33)), Some (value (pos 33)), [], ((3, 11) ∷ [])) ∷ (1, Some (value (negsuc 9223372036854775807)), Some (value (negsuc 9223372036854775807)), [], ((3, 11) ∷ (4, 10) ∷ [])) ∷ (0, None, None, [], []) ∷ (2, None, None, ((0, 11) ∷ (1, 11) ∷ []), []) ∷ (2, None, None, ((1, 10) ∷ []), []) ∷ (0, None, None, [], []) ∷ []))
 
 abbrev script29 : Script
 script29 = script 9 14 30 2
@@ -1573,7 +1573,7 @@ script29 = script 9 14 30 2
     ∷ (0, value (pos 0), [])
     ∷ (0, value (pos 2), [])
     ∷ [])
-    (0, 11, [], false, ((1, some (value (pos 1)), some (value (pos 1)), [], ((3, 11) ∷ [])) ∷ (1, some (value (pos 2)), some (value (pos 2)), [], ((8, 10) ∷ (3, 11) ∷ [])) ∷ (0, none, none, [], []) ∷ (1, some (value (pos 2)), none, ((0, 11) ∷ (1, 11) ∷ []), []) ∷ (0, none, none, [], []) ∷ (17, some (value (negsuc 34)), some (value (pos 9223372036854775807)), [], []) ∷ (0, none, none, [], []) ∷ (0, none, none, [], []) ∷ (2, none, none, ((1, 10) ∷ []), []) ∷ []))
+    (0, 11, [], false, ((1, Some (value (pos 1)), Some (value (pos 1)), [], ((3, 11) ∷ [])) ∷ (1, Some (value (pos 2)), Some (value (pos 2)), [], ((8, 10) ∷ (3, 11) ∷ [])) ∷ (0, None, None, [], []) ∷ (1, Some (value (pos 2)), None, ((0, 11) ∷ (1, 11) ∷ []), []) ∷ (0, None, None, [], []) ∷ (17, Some (value (negsuc 34)), Some (value (pos 9223372036854775807)), [], []) ∷ (0, None, None, [], []) ∷ (0, None, None, [], []) ∷ (2, None, None, ((1, 10) ∷ []), []) ∷ []))
 
 abbrev script30 : Script
 script30 = script 16 60 90 8
@@ -1659,7 +1659,7 @@ script30 = script 16 60 90 8
     ∷ (0, value (pos 0), ((2, value (pos 9223372036854775806)) ∷ (7, value (pos 47)) ∷ (12, value (pos 0)) ∷ []))
     ∷ (0, value (pos 0), ((2, value (pos 9223372036854775781)) ∷ (7, value (pos 22)) ∷ (12, value (pos 0)) ∷ []))
     ∷ [])
-    (0, 40, [], false, ((1, some (value (pos 9223372036854775806)), some (value (pos 9223372036854775806)), [], ((2, 36) ∷ (6, 38) ∷ (12, 40) ∷ (14, 30) ∷ [])) ∷ (1, some (value (negsuc 24)), some (value (negsuc 24)), [], ((2, 36) ∷ (3, 37) ∷ (10, 5) ∷ [])) ∷ (2, none, none, ((0, 36) ∷ (1, 36) ∷ []), []) ∷ (1, some (value (negsuc 24)), none, ((1, 37) ∷ []), ((6, 38) ∷ [])) ∷ (0, none, none, [], []) ∷ (0, none, none, [], []) ∷ (1, some (value (pos 22)), none, ((0, 38) ∷ (3, 38) ∷ []), ((7, 39) ∷ (12, 40) ∷ (10, 5) ∷ [])) ∷ (2, none, none, ((6, 39) ∷ []), []) ∷ (0, none, none, ((14, 0) ∷ []), []) ∷ (0, none, none, [], []) ∷ (49, some (value (pos 97)), none, ((6, 5) ∷ (1, 5) ∷ []), []) ∷ (0, none, none, [], []) ∷ (2, none, none, ((0, 40) ∷ (6, 40) ∷ []), []) ∷ (0, none, none, [], []) ∷ (2, none, none, ((0, 30) ∷ []), ((8, 0) ∷ [])) ∷ (2, none, none, [], []) ∷ []))
+    (0, 40, [], false, ((1, Some (value (pos 9223372036854775806)), Some (value (pos 9223372036854775806)), [], ((2, 36) ∷ (6, 38) ∷ (12, 40) ∷ (14, 30) ∷ [])) ∷ (1, Some (value (negsuc 24)), Some (value (negsuc 24)), [], ((2, 36) ∷ (3, 37) ∷ (10, 5) ∷ [])) ∷ (2, None, None, ((0, 36) ∷ (1, 36) ∷ []), []) ∷ (1, Some (value (negsuc 24)), None, ((1, 37) ∷ []), ((6, 38) ∷ [])) ∷ (0, None, None, [], []) ∷ (0, None, None, [], []) ∷ (1, Some (value (pos 22)), None, ((0, 38) ∷ (3, 38) ∷ []), ((7, 39) ∷ (12, 40) ∷ (10, 5) ∷ [])) ∷ (2, None, None, ((6, 39) ∷ []), []) ∷ (0, None, None, ((14, 0) ∷ []), []) ∷ (0, None, None, [], []) ∷ (49, Some (value (pos 97)), None, ((6, 5) ∷ (1, 5) ∷ []), []) ∷ (0, None, None, [], []) ∷ (2, None, None, ((0, 40) ∷ (6, 40) ∷ []), []) ∷ (0, None, None, [], []) ∷ (2, None, None, ((0, 30) ∷ []), ((8, 0) ∷ [])) ∷ (2, None, None, [], []) ∷ []))
 
 abbrev script31 : Script
 script31 = script 16 60 90 8
@@ -1745,7 +1745,7 @@ script31 = script 16 60 90 8
     ∷ (0, value (pos 0), ((2, value (pos 1)) ∷ (3, value (negsuc 34)) ∷ (7, value (pos 9223372036854775807)) ∷ []))
     ∷ (0, value (pos 0), ((2, value (pos 0)) ∷ (3, value (pos 39)) ∷ (7, value (pos 9223372036854775807)) ∷ []))
     ∷ [])
-    (0, 34, [], false, ((1, some (value (pos 39)), some (value (pos 39)), [], ((2, 32) ∷ (2, 32) ∷ (2, 32) ∷ (3, 33) ∷ (7, 34) ∷ [])) ∷ (1, some (value (negsuc 0)), some (value (negsuc 0)), [], ((2, 32) ∷ (3, 33) ∷ (2, 32) ∷ (2, 32) ∷ (2, 32) ∷ [])) ∷ (2, none, none, ((1, 32) ∷ (0, 32) ∷ (1, 32) ∷ (0, 32) ∷ (1, 32) ∷ (0, 32) ∷ (1, 32) ∷ []), []) ∷ (2, none, none, ((1, 33) ∷ (0, 33) ∷ []), []) ∷ (2, none, none, [], []) ∷ (17, some (value (negsuc 0)), none, [], []) ∷ (17, some (value (negsuc 0)), none, [], []) ∷ (2, none, none, ((0, 34) ∷ []), []) ∷ []))
+    (0, 34, [], false, ((1, Some (value (pos 39)), Some (value (pos 39)), [], ((2, 32) ∷ (2, 32) ∷ (2, 32) ∷ (3, 33) ∷ (7, 34) ∷ [])) ∷ (1, Some (value (negsuc 0)), Some (value (negsuc 0)), [], ((2, 32) ∷ (3, 33) ∷ (2, 32) ∷ (2, 32) ∷ (2, 32) ∷ [])) ∷ (2, None, None, ((1, 32) ∷ (0, 32) ∷ (1, 32) ∷ (0, 32) ∷ (1, 32) ∷ (0, 32) ∷ (1, 32) ∷ []), []) ∷ (2, None, None, ((1, 33) ∷ (0, 33) ∷ []), []) ∷ (2, None, None, [], []) ∷ (17, Some (value (negsuc 0)), None, [], []) ∷ (17, Some (value (negsuc 0)), None, [], []) ∷ (2, None, None, ((0, 34) ∷ []), []) ∷ []))
 
 abbrev script32 : Script
 script32 = script 16 60 90 8
@@ -1837,7 +1837,7 @@ script32 = script 16 60 90 8
     ∷ (0, value (pos 0), [])
     ∷ (0, value (pos 0), ((2, value (pos 1)) ∷ (6, value (negsuc 0)) ∷ (8, value (pos 4)) ∷ (10, value (pos 2)) ∷ []))
     ∷ [])
-    (0, 23, [], false, ((1, some (value (pos 1)), some (value (pos 1)), [], ((2, 20) ∷ (6, 21) ∷ (8, 22) ∷ [])) ∷ (1, some (value (pos 2)), some (value (pos 2)), [], ((6, 21) ∷ (8, 22) ∷ (10, 23) ∷ [])) ∷ (2, none, none, ((0, 20) ∷ []), []) ∷ (0, none, none, [], []) ∷ (2, none, none, [], []) ∷ (2, none, none, [], []) ∷ (2, none, none, ((0, 21) ∷ (1, 21) ∷ []), []) ∷ (0, none, none, [], []) ∷ (2, none, none, ((0, 22) ∷ (1, 22) ∷ []), []) ∷ (0, none, none, [], []) ∷ (2, none, none, ((1, 23) ∷ []), []) ∷ (17, some (value (negsuc 134)), none, [], []) ∷ (0, none, none, [], []) ∷ (2, none, none, [], []) ∷ (17, some (value (negsuc 134)), none, [], []) ∷ (2, none, none, [], []) ∷ []))
+    (0, 23, [], false, ((1, Some (value (pos 1)), Some (value (pos 1)), [], ((2, 20) ∷ (6, 21) ∷ (8, 22) ∷ [])) ∷ (1, Some (value (pos 2)), Some (value (pos 2)), [], ((6, 21) ∷ (8, 22) ∷ (10, 23) ∷ [])) ∷ (2, None, None, ((0, 20) ∷ []), []) ∷ (0, None, None, [], []) ∷ (2, None, None, [], []) ∷ (2, None, None, [], []) ∷ (2, None, None, ((0, 21) ∷ (1, 21) ∷ []), []) ∷ (0, None, None, [], []) ∷ (2, None, None, ((0, 22) ∷ (1, 22) ∷ []), []) ∷ (0, None, None, [], []) ∷ (2, None, None, ((1, 23) ∷ []), []) ∷ (17, Some (value (negsuc 134)), None, [], []) ∷ (0, None, None, [], []) ∷ (2, None, None, [], []) ∷ (17, Some (value (negsuc 134)), None, [], []) ∷ (2, None, None, [], []) ∷ []))
 
 abbrev script33 : Script
 script33 = script 16 60 90 8
@@ -1923,7 +1923,7 @@ script33 = script 16 60 90 8
     ∷ (0, value (pos 0), [])
     ∷ (4, value (pos 0), [])
     ∷ [])
-    (0, 55, [], false, ((1, some (value (pos 2)), some (value (pos 2)), [], ((4, 47) ∷ (2, 48) ∷ (5, 51) ∷ (12, 55) ∷ (2, 48) ∷ (12, 55) ∷ [])) ∷ (1, some (value (pos 0)), some (value (pos 0)), [], ((2, 48) ∷ (5, 51) ∷ [])) ∷ (1, some (value (pos 4)), none, ((0, 48) ∷ (1, 48) ∷ (0, 48) ∷ []), ((3, 49) ∷ [])) ∷ (1, some (value (pos 4)), none, ((2, 49) ∷ []), ((4, 49) ∷ (7, 52) ∷ [])) ∷ (2, none, none, ((0, 47) ∷ (3, 49) ∷ []), []) ∷ (1, some (value (pos 2)), none, ((1, 51) ∷ (0, 51) ∷ []), ((6, 52) ∷ [])) ∷ (1, some (value (pos 2)), none, ((5, 52) ∷ []), ((7, 52) ∷ [])) ∷ (1, some (value (pos 8)), none, ((6, 52) ∷ (3, 52) ∷ []), ((9, 53) ∷ [])) ∷ (0, none, none, [], []) ∷ (1, some (value (pos 8)), none, ((7, 53) ∷ []), ((12, 55) ∷ (13, 46) ∷ [])) ∷ (0, none, none, [], []) ∷ (0, none, none, [], []) ∷ (2, none, none, ((0, 55) ∷ (9, 55) ∷ (0, 55) ∷ []), []) ∷ (49, some (value (pos 9223372036854775807)), none, ((9, 46) ∷ []), ((14, 17) ∷ [])) ∷ (33, some (value (pos 9223372036854775807)), none, ((13, 17) ∷ []), []) ∷ (17, some (value (negsuc 36)), some (value (pos 45)), [], []) ∷ []))
+    (0, 55, [], false, ((1, Some (value (pos 2)), Some (value (pos 2)), [], ((4, 47) ∷ (2, 48) ∷ (5, 51) ∷ (12, 55) ∷ (2, 48) ∷ (12, 55) ∷ [])) ∷ (1, Some (value (pos 0)), Some (value (pos 0)), [], ((2, 48) ∷ (5, 51) ∷ [])) ∷ (1, Some (value (pos 4)), None, ((0, 48) ∷ (1, 48) ∷ (0, 48) ∷ []), ((3, 49) ∷ [])) ∷ (1, Some (value (pos 4)), None, ((2, 49) ∷ []), ((4, 49) ∷ (7, 52) ∷ [])) ∷ (2, None, None, ((0, 47) ∷ (3, 49) ∷ []), []) ∷ (1, Some (value (pos 2)), None, ((1, 51) ∷ (0, 51) ∷ []), ((6, 52) ∷ [])) ∷ (1, Some (value (pos 2)), None, ((5, 52) ∷ []), ((7, 52) ∷ [])) ∷ (1, Some (value (pos 8)), None, ((6, 52) ∷ (3, 52) ∷ []), ((9, 53) ∷ [])) ∷ (0, None, None, [], []) ∷ (1, Some (value (pos 8)), None, ((7, 53) ∷ []), ((12, 55) ∷ (13, 46) ∷ [])) ∷ (0, None, None, [], []) ∷ (0, None, None, [], []) ∷ (2, None, None, ((0, 55) ∷ (9, 55) ∷ (0, 55) ∷ []), []) ∷ (49, Some (value (pos 9223372036854775807)), None, ((9, 46) ∷ []), ((14, 17) ∷ [])) ∷ (33, Some (value (pos 9223372036854775807)), None, ((13, 17) ∷ []), []) ∷ (17, Some (value (negsuc 36)), Some (value (pos 45)), [], []) ∷ []))
 
 abbrev script34 : Script
 script34 = script 16 60 90 8
@@ -2011,7 +2011,7 @@ script34 = script 16 60 90 8
     ∷ (0, value (pos 0), [])
     ∷ (0, value (pos 0), [])
     ∷ [])
-    (0, 21, [], false, ((1, some (value (pos 4)), some (value (pos 4)), [], ((4, 20) ∷ (7, 21) ∷ [])) ∷ (1, some (value (pos 1)), some (value (pos 1)), [], ((6, 19) ∷ [])) ∷ (0, none, none, ((3, 0) ∷ []), []) ∷ (0, none, none, ((4, 0) ∷ (7, 0) ∷ []), ((2, 0) ∷ [])) ∷ (2, none, none, ((0, 20) ∷ []), ((3, 0) ∷ [])) ∷ (17, some (value (pos 1)), some (value (pos 2)), [], []) ∷ (2, none, none, ((1, 19) ∷ []), []) ∷ (2, none, none, ((0, 21) ∷ []), ((3, 0) ∷ [])) ∷ (1, some (value (pos 9223372036854775807)), some (value (pos 9223372036854775807)), [], []) ∷ (17, some (value (pos 9223372036854775807)), none, [], []) ∷ (2, none, none, [], []) ∷ (0, none, none, [], []) ∷ (1, some (value (negsuc 0)), some (value (negsuc 0)), [], []) ∷ (0, none, none, [], []) ∷ (0, none, none, [], []) ∷ (0, none, none, [], []) ∷ []))
+    (0, 21, [], false, ((1, Some (value (pos 4)), Some (value (pos 4)), [], ((4, 20) ∷ (7, 21) ∷ [])) ∷ (1, Some (value (pos 1)), Some (value (pos 1)), [], ((6, 19) ∷ [])) ∷ (0, None, None, ((3, 0) ∷ []), []) ∷ (0, None, None, ((4, 0) ∷ (7, 0) ∷ []), ((2, 0) ∷ [])) ∷ (2, None, None, ((0, 20) ∷ []), ((3, 0) ∷ [])) ∷ (17, Some (value (pos 1)), Some (value (pos 2)), [], []) ∷ (2, None, None, ((1, 19) ∷ []), []) ∷ (2, None, None, ((0, 21) ∷ []), ((3, 0) ∷ [])) ∷ (1, Some (value (pos 9223372036854775807)), Some (value (pos 9223372036854775807)), [], []) ∷ (17, Some (value (pos 9223372036854775807)), None, [], []) ∷ (2, None, None, [], []) ∷ (0, None, None, [], []) ∷ (1, Some (value (negsuc 0)), Some (value (negsuc 0)), [], []) ∷ (0, None, None, [], []) ∷ (0, None, None, [], []) ∷ (0, None, None, [], []) ∷ []))
 
 abbrev script35 : Script
 script35 = script 10 20 25 1
@@ -2097,7 +2097,7 @@ script35 = script 10 20 25 1
     ∷ (0, value (pos 0), [])
     ∷ (0, value (pos 0), ((2, value (pos 4)) ∷ []))
     ∷ [])
-    (0, 19, [], false, ((1, some (value (pos 0)), some (value (pos 0)), [], ((2, 19) ∷ (3, 16) ∷ [])) ∷ (1, some (value (pos 2)), some (value (pos 2)), [], ((2, 19) ∷ (3, 16) ∷ (2, 19) ∷ [])) ∷ (2, none, none, ((1, 19) ∷ (0, 19) ∷ (1, 19) ∷ []), []) ∷ (1, some (value (pos 2)), none, ((0, 16) ∷ (1, 16) ∷ []), ((4, 17) ∷ [])) ∷ (1, some (value (pos 4)), none, ((3, 17) ∷ []), ((5, 18) ∷ [])) ∷ (1, some (value (pos 4)), none, ((4, 18) ∷ []), []) ∷ []))
+    (0, 19, [], false, ((1, Some (value (pos 0)), Some (value (pos 0)), [], ((2, 19) ∷ (3, 16) ∷ [])) ∷ (1, Some (value (pos 2)), Some (value (pos 2)), [], ((2, 19) ∷ (3, 16) ∷ (2, 19) ∷ [])) ∷ (2, None, None, ((1, 19) ∷ (0, 19) ∷ (1, 19) ∷ []), []) ∷ (1, Some (value (pos 2)), None, ((0, 16) ∷ (1, 16) ∷ []), ((4, 17) ∷ [])) ∷ (1, Some (value (pos 4)), None, ((3, 17) ∷ []), ((5, 18) ∷ [])) ∷ (1, Some (value (pos 4)), None, ((4, 18) ∷ []), []) ∷ []))
 
 abbrev script36 : Script
 script36 = script 10 20 25 1
@@ -2183,7 +2183,7 @@ script36 = script 10 20 25 1
     ∷ (0, value (pos 0), ((3, value (pos 2)) ∷ []))
     ∷ (0, value (pos 0), ((3, value (pos 0)) ∷ []))
     ∷ [])
-    (0, 24, [], false, ((1, some (value (pos 0)), some (value (pos 0)), [], ((3, 23) ∷ (2, 24) ∷ (4, 16) ∷ [])) ∷ (17, some (value (pos 1)), some (value (pos 38)), [], []) ∷ (1, some (value (pos 0)), none, ((0, 24) ∷ []), ((3, 24) ∷ (4, 17) ∷ [])) ∷ (2, none, none, ((0, 23) ∷ (2, 24) ∷ []), []) ∷ (49, some (value (pos 0)), none, ((0, 16) ∷ (2, 17) ∷ []), ((5, 18) ∷ (6, 19) ∷ [])) ∷ (33, some (value (pos 0)), none, ((4, 18) ∷ []), ((6, 19) ∷ [])) ∷ (33, some (value (pos 0)), none, ((5, 19) ∷ (4, 19) ∷ []), ((7, 20) ∷ [])) ∷ (33, some (value (negsuc 0)), none, ((6, 20) ∷ []), ((8, 21) ∷ [])) ∷ (33, some (value (negsuc 0)), none, ((7, 21) ∷ []), []) ∷ []))
+    (0, 24, [], false, ((1, Some (value (pos 0)), Some (value (pos 0)), [], ((3, 23) ∷ (2, 24) ∷ (4, 16) ∷ [])) ∷ (17, Some (value (pos 1)), Some (value (pos 38)), [], []) ∷ (1, Some (value (pos 0)), None, ((0, 24) ∷ []), ((3, 24) ∷ (4, 17) ∷ [])) ∷ (2, None, None, ((0, 23) ∷ (2, 24) ∷ []), []) ∷ (49, Some (value (pos 0)), None, ((0, 16) ∷ (2, 17) ∷ []), ((5, 18) ∷ (6, 19) ∷ [])) ∷ (33, Some (value (pos 0)), None, ((4, 18) ∷ []), ((6, 19) ∷ [])) ∷ (33, Some (value (pos 0)), None, ((5, 19) ∷ (4, 19) ∷ []), ((7, 20) ∷ [])) ∷ (33, Some (value (negsuc 0)), None, ((6, 20) ∷ []), ((8, 21) ∷ [])) ∷ (33, Some (value (negsuc 0)), None, ((7, 21) ∷ []), []) ∷ []))
 
 abbrev script37 : Script
 script37 = script 10 20 25 1
@@ -2271,7 +2271,7 @@ script37 = script 10 20 25 1
     ∷ (0, value (pos 0), [])
     ∷ (0, value (pos 0), [])
     ∷ [])
-    (0, 6, [], false, ((17, some (value (negsuc 22)), some (value (pos 1)), [], ((6, 5) ∷ [])) ∷ (1, some (value (negsuc 17)), some (value (negsuc 17)), [], ((6, 5) ∷ (9, 6) ∷ [])) ∷ (0, none, none, [], []) ∷ (0, none, none, [], []) ∷ (0, none, none, [], []) ∷ (0, none, none, [], []) ∷ (49, some (value (negsuc 22)), none, ((1, 5) ∷ (0, 5) ∷ []), []) ∷ (0, none, none, [], []) ∷ (0, none, none, [], []) ∷ (2, none, none, ((1, 6) ∷ []), []) ∷ []))
+    (0, 6, [], false, ((17, Some (value (negsuc 22)), Some (value (pos 1)), [], ((6, 5) ∷ [])) ∷ (1, Some (value (negsuc 17)), Some (value (negsuc 17)), [], ((6, 5) ∷ (9, 6) ∷ [])) ∷ (0, None, None, [], []) ∷ (0, None, None, [], []) ∷ (0, None, None, [], []) ∷ (0, None, None, [], []) ∷ (49, Some (value (negsuc 22)), None, ((1, 5) ∷ (0, 5) ∷ []), []) ∷ (0, None, None, [], []) ∷ (0, None, None, [], []) ∷ (2, None, None, ((1, 6) ∷ []), []) ∷ []))
 
 abbrev script38 : Script
 script38 = script 10 20 25 1
@@ -2357,7 +2357,7 @@ script38 = script 10 20 25 1
     ∷ (0, value (pos 0), ((2, value (pos 2498888815331320636)) ∷ []))
     ∷ (0, value (pos 0), ((2, value (negsuc 49)) ∷ []))
     ∷ [])
-    (0, 7, [], false, ((1, some (value (negsuc 48)), some (value (negsuc 48)), [], ((2, 7) ∷ [])) ∷ (1, some (value (negsuc 0)), some (value (negsuc 0)), [], ((2, 7) ∷ (3, 4) ∷ [])) ∷ (2, none, none, ((0, 7) ∷ (1, 7) ∷ []), []) ∷ (49, some (value (pos 0)), none, ((1, 4) ∷ []), []) ∷ (0, none, none, [], []) ∷ (1, some (value (pos 49)), none, [], ((9, 5) ∷ [])) ∷ (0, none, none, [], []) ∷ (1, some (value (pos 0)), none, [], []) ∷ (17, some (value (pos 1)), some (value (pos 7547815953366460864)), [], []) ∷ (1, some (value (pos 49)), none, ((5, 5) ∷ []), []) ∷ []))
+    (0, 7, [], false, ((1, Some (value (negsuc 48)), Some (value (negsuc 48)), [], ((2, 7) ∷ [])) ∷ (1, Some (value (negsuc 0)), Some (value (negsuc 0)), [], ((2, 7) ∷ (3, 4) ∷ [])) ∷ (2, None, None, ((0, 7) ∷ (1, 7) ∷ []), []) ∷ (49, Some (value (pos 0)), None, ((1, 4) ∷ []), []) ∷ (0, None, None, [], []) ∷ (1, Some (value (pos 49)), None, [], ((9, 5) ∷ [])) ∷ (0, None, None, [], []) ∷ (1, Some (value (pos 0)), None, [], []) ∷ (17, Some (value (pos 1)), Some (value (pos 7547815953366460864)), [], []) ∷ (1, Some (value (pos 49)), None, ((5, 5) ∷ []), []) ∷ []))
 
 abbrev script39 : Script
 script39 = script 10 20 25 1
@@ -2443,7 +2443,7 @@ script39 = script 10 20 25 1
     ∷ (0, value (pos 0), [])
     ∷ (0, value (pos 0), [])
     ∷ [])
-    (1, 7, (4 ∷ 5 ∷ 7 ∷ 8 ∷ 9 ∷ []), false, ((17, some (value (pos 0)), some (value (negsuc 0)), [], []) ∷ (1, some (value (pos 24)), some (value (pos 24)), [], ((4, 4) ∷ (5, 4) ∷ (7, 4) ∷ (8, 4) ∷ (9, 4) ∷ (2, 7) ∷ [])) ∷ (1, some (value (pos 72)), none, ((1, 7) ∷ []), []) ∷ (0, none, none, [], []) ∷ (48, none, none, ((1, 4) ∷ []), []) ∷ (48, none, none, ((1, 4) ∷ []), []) ∷ (0, none, none, [], []) ∷ (48, none, none, ((1, 4) ∷ []), []) ∷ (48, none, none, ((1, 4) ∷ []), []) ∷ (48, none, none, ((1, 4) ∷ []), []) ∷ []))
+    (1, 7, (4 ∷ 5 ∷ 7 ∷ 8 ∷ 9 ∷ []), false, ((17, Some (value (pos 0)), Some (value (negsuc 0)), [], []) ∷ (1, Some (value (pos 24)), Some (value (pos 24)), [], ((4, 4) ∷ (5, 4) ∷ (7, 4) ∷ (8, 4) ∷ (9, 4) ∷ (2, 7) ∷ [])) ∷ (1, Some (value (pos 72)), None, ((1, 7) ∷ []), []) ∷ (0, None, None, [], []) ∷ (48, None, None, ((1, 4) ∷ []), []) ∷ (48, None, None, ((1, 4) ∷ []), []) ∷ (0, None, None, [], []) ∷ (48, None, None, ((1, 4) ∷ []), []) ∷ (48, None, None, ((1, 4) ∷ []), []) ∷ (48, None, None, ((1, 4) ∷ []), []) ∷ []))
 
 abbrev scripts : List Script
 scripts = script0 ∷ script1 ∷ script2 ∷ script3 ∷ script4 ∷ script5 ∷ script6 ∷ script7 ∷ script8 ∷ script9 ∷ script10 ∷ script11 ∷ script12 ∷ script13 ∷ script14 ∷ script15 ∷ script16 ∷ script17 ∷ script18 ∷ script19 ∷ script20 ∷ script21 ∷ script22 ∷ script23 ∷ script24 ∷ script25 ∷ script26 ∷ script27 ∷ script28 ∷ script29 ∷ script30 ∷ script31 ∷ script32 ∷ script33 ∷ script34 ∷ script35 ∷ script36 ∷ script37 ∷ script38 ∷ script39 ∷ []

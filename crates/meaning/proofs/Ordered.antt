@@ -1,8 +1,8 @@
 -- A walk that is not stuck is the plain depth-first one, and queues owners first (specs/Order). Assumes nothing.
+use Rattle.std.specs.Prelude.{Option, None, Some}
 use mathlib.Core.Path.{◌≡◌, refl, sym, ap, ◌∙◌, subst}
 use mathlib.Core.Bool.{Bool, true, false, not, ◌||◌}
 use mathlib.Core.List.{List, [], ◌∷◌, ◌++◌, reverse}
-use mathlib.Core.Option.{Option, none, some}
 use Prim.Native.Nat.{ℕ, zero, suc, ◌≤◌}
 use native.Mathlib.Omega.{arith}
 use lib.Dec.{ltb}
@@ -24,10 +24,10 @@ chain_exact ow f zero e h = absurd (omega arith)
 chain_exact ow f (suc k) e h = go (λ o l. chain_exact ow f k o l) (ow e) refl h
   where
     go : ((o : ℕ) → length (chain k ow f o) ≤ k → Climbed ow f o (chain k ow f o)) → (p : Option ℕ) → ow e ≡ p
-        → length (e ∷ (elim p [ none ↦ [] | some o ↦ elim (f o).watching [ true ↦ chain k ow f o | false ↦ [] ] ])) ≤ suc k
-        → Climbed ow f e (e ∷ (elim p [ none ↦ [] | some o ↦ elim (f o).watching [ true ↦ chain k ow f o | false ↦ [] ] ]))
-    go rec none q l = stops (λ o z. none_some (sym q ∙ z))
-    go rec (some o) q l =
+        → length (e ∷ (elim p [ None ↦ [] | Some o ↦ elim (f o).watching [ true ↦ chain k ow f o | false ↦ [] ] ])) ≤ suc k
+        → Climbed ow f e (e ∷ (elim p [ None ↦ [] | Some o ↦ elim (f o).watching [ true ↦ chain k ow f o | false ↦ [] ] ]))
+    go rec None q l = stops (λ o z. none_some (sym q ∙ z))
+    go rec (Some o) q l =
         branch (λ (c : List ℕ). length (e ∷ c) ≤ suc k → Climbed ow f e (e ∷ c)) (f o).watching
         (λ a z. climbs o q a (rec o (omega arith)))
         (λ a z. stops (λ x y. ap (λ (n : ℕ). (f n).watching) (sym (same_some (sym q ∙ y))) ∙ a)) l

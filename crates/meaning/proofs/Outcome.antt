@@ -1,9 +1,9 @@
 -- What an accepted command comes to: its rows fit the lent log and are of effects that may run, and who goes must go. Assumes nothing.
+use Rattle.std.specs.Prelude.{Option, None, Some}
 use mathlib.Core.Path.{◌≡◌, refl, sym, ap, ◌∙◌, subst}
 use mathlib.Core.Logic.{◌⊎◌, inl, inr}
 use mathlib.Core.Bool.{Bool, true, false, not, ◌&&◌}
 use mathlib.Core.List.{List, [], ◌∷◌, ◌++◌}
-use mathlib.Core.Option.{Option, none, some}
 use Prim.Native.Nat.{ℕ, zero, suc, ◌≤◌, ◌<◌}
 use native.Mathlib.Omega.{arith}
 use lib.IntN.{ℤ, pos, negsuc}
@@ -43,8 +43,8 @@ use Rattle.meaning.proofs.Rows.{flush_rows_lem, flush_few}
 
 -- ---- a new effect has one row
 owned_fixed : (x : St) (n : ℕ) (o : Option ℕ) → fixed (owned x n o) ≡ fixed x
-owned_fixed x n none = refl
-owned_fixed x n (some p) = (link_still x n p 0).same
+owned_fixed x n None = refl
+owned_fixed x n (Some p) = (link_still x n p 0).same
 
 new_fixed : (s : St) (o : Option ℕ) (t : Tree) → fixed (evaluate (entered s o t) s.size).st ≡ fixed (node s effect t o f6 nothing)
 new_fixed s o t = (evaluate_ring Still renews_still (entered s o t) s.size).same ∙ owned_fixed (node s effect t o f6 nothing) s.size o
@@ -75,7 +75,7 @@ module _ (s : St) (rows : ℕ) (w : WellFormed s) where
     pub few : length t.log ≤ (asks_of c).rows v
     pub once : Once (whos t.log)
     pub whose : (e : ℕ) → In e (whos t.log) → MayRun s c e
-    pub disposes : (e y : ℕ) → In e (whos t.log) → y < s.size → s.owner y ≡ some e → t.gone y ≡ true
+    pub disposes : (e y : ℕ) → In e (whos t.log) → y < s.size → s.owner y ≡ Some e → t.gone y ≡ true
     pub goes : (n : ℕ) → n < s.size → readable (s.kind n) ≡ false → s.gone n ≡ false → t.gone n ≡ true → MustGo s c (whos t.log) n
     pub lives : (n : ℕ) → s.size ≤ n → n < t.size → t.gone n ≡ false
 
@@ -152,7 +152,7 @@ module _ (s : St) (rows : ℕ) (w : WellFormed s) where
       let f = owned_fixed x s.size o in
       told_made c _ (ap (λ (z : Fixed). z.log) f) (ap (λ (z : Fixed). z.nodes.size) f) (owned_marks (with_log s []) wl x s.size o)
 
-  effect_told : (o : ℤ) (cs : List ℤ) → NoneHolds (table true v (some (make_effect o cs))) → Told (make_effect o cs) (new_effect (with_log s []) (owner_of o) (formula_of cs))
+  effect_told : (o : ℤ) (cs : List ℤ) → NoneHolds (table true v (Some (make_effect o cs))) → Told (make_effect o cs) (new_effect (with_log s []) (owner_of o) (formula_of cs))
   unfolding whos new_effect logged asks_of
   effect_told o cs h =
       let x = with_log s [] in
@@ -186,7 +186,7 @@ module _ (s : St) (rows : ℕ) (w : WellFormed s) where
       go n l a b (inl p) = disposed x refl p
       go n l a b (inr f) = clash b ((dispose_inside g st (with_log s []) x i h r).others n l f ∙ a)
 
-  perform_told : (c : Command) → NoneHolds (table true v (some c)) → Told c (perform (with_log s []) c).st
+  perform_told : (c : Command) → NoneHolds (table true v (Some c)) → Told c (perform (with_log s []) c).st
   unfolding table perform new_signal new_computed wrong_node is_a asks_of
   perform_told (make_signal x) h = told_made (make_signal x) _ refl refl refl
   perform_told (make_computed cs) h = told_made (make_computed cs) _ refl refl refl
@@ -204,7 +204,7 @@ module _ (s : St) (rows : ℕ) (w : WellFormed s) where
   perform_told batch_end h = end_told batch_end s.depth refl (λ e. (eq-eqb s.depth 1 e, wanted 1 e))
 
 -- the rows of an accepted command, and who goes in it
-pub command_told : (s : St) (rows : ℕ) (w : WellFormed s) (ws : List ℤ) (c : Command) → command_of ws ≡ some c → (command true s rows ws).code ≡ 0 → Told s rows w c (command true s rows ws).st
+pub command_told : (s : St) (rows : ℕ) (w : WellFormed s) (ws : List ℤ) (c : Command) → command_of ws ≡ Some c → (command true s rows ws).code ≡ 0 → Told s rows w c (command true s rows ws).st
 command_told s rows w ws c q a =
     let p = performed s rows ws c q a in
     subst (Told s rows w c) (sym (ap (λ (z : Answer). z.st) p.0)) (perform_told s rows w c p.1)
@@ -212,8 +212,8 @@ command_told s rows w ws c q a =
 module _ (s : St) (rows : ℕ) (w : WellFormed s) where
   any_few : (c : Option Command) → NoneHolds (table true (sight_of s rows) c) → length (perform_any (with_log s []) c).st.log ≤ rows
   unfolding perform_any table unknown few_rows
-  any_few none h = false≢true (sym (h 1))
-  any_few (some c) h = let a = (perform_told s rows w c h).few in let b = ltb-false rows ((asks_of c).rows (sight_of s rows)) (h 8) in omega arith
+  any_few None h = false≢true (sym (h 1))
+  any_few (Some c) h = let a = (perform_told s rows w c h).few in let b = ltb-false rows ((asks_of c).rows (sight_of s rows)) (h 8) in omega arith
 
 -- the rows of a command fit the lent log
 pub rows_fit : (s : St) (rows : ℕ) (ws : List ℤ) → WellFormed s → runs (command true s rows ws) ≤ rows

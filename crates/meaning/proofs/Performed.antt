@@ -1,8 +1,8 @@
 -- An accepted command is a known one, no row of the table holds of it, and it is performed. Assumes nothing.
+use Rattle.std.specs.Prelude.{Option, None, Some}
 use mathlib.Core.Path.{◌≡◌, refl, sym, ap, ◌∙◌, subst}
 use mathlib.Core.Bool.{true}
 use mathlib.Core.List.{List, []}
-use mathlib.Core.Option.{Option, none, some}
 use Prim.Native.Nat.{ℕ, zero, suc}
 use native.Mathlib.Omega.{arith}
 use lib.IntN.{ℤ}
@@ -15,23 +15,23 @@ use Rattle.meaning.proofs.Laws.{false≢true}
 use Rattle.meaning.proofs.Refused.{NoneHolds, accepted_exactly}
 
 module _ (s : St) (rows : ℕ) (ws : List ℤ) where
-  pub performed : (c : Command) → command_of ws ≡ some c → (command true s rows ws).code ≡ 0
-      → (command true s rows ws ≡ accepted (perform (with_log s []) c)) × NoneHolds (table true (sight_of s rows) (some c))
+  pub performed : (c : Command) → command_of ws ≡ Some c → (command true s rows ws).code ≡ 0
+      → (command true s rows ws ≡ accepted (perform (with_log s []) c)) × NoneHolds (table true (sight_of s rows) (Some c))
   unfolding command answer perform_any
   performed c q a = go (refusal true (sight_of s rows) ws) (accepted_exactly true s rows ws).0 a
     where
       go : (r : ℕ) → ((answer r s ws).code ≡ 0 → NoneHolds (table true (sight_of s rows) (command_of ws))) → (answer r s ws).code ≡ 0
-          → (answer r s ws ≡ accepted (perform (with_log s []) c)) × NoneHolds (table true (sight_of s rows) (some c))
+          → (answer r s ws ≡ accepted (perform (with_log s []) c)) × NoneHolds (table true (sight_of s rows) (Some c))
       go zero h e = (ap (λ (z : Option Command). accepted (perform_any (with_log s []) z)) q, subst (λ (z : Option Command). NoneHolds (table true (sight_of s rows) z)) q (h refl))
       go (suc r) h e = absurd (omega arith)
 
-  pub known : (command true s rows ws).code ≡ 0 → (c : Command) × (command_of ws ≡ some c)
+  pub known : (command true s rows ws).code ≡ 0 → (c : Command) × (command_of ws ≡ Some c)
   unfolding table unknown
   known a = go (command_of ws) refl ((accepted_exactly true s rows ws).0 a)
     where
-      go : (o : Option Command) → command_of ws ≡ o → NoneHolds (table true (sight_of s rows) o) → (c : Command) × (command_of ws ≡ some c)
-      go none e h = false≢true (sym (h 1))
-      go (some c) e h = (c, e)
+      go : (o : Option Command) → command_of ws ≡ o → NoneHolds (table true (sight_of s rows) o) → (c : Command) × (command_of ws ≡ Some c)
+      go None e h = false≢true (sym (h 1))
+      go (Some c) e h = (c, e)
 
   -- its rows are the log that it leaves
   pub rows_are : (command true s rows ws).code ≡ 0 → (command true s rows ws).rows ≡ (command true s rows ws).st.log

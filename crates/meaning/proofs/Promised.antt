@@ -1,10 +1,10 @@
 -- What document 01 says of an accepted command, from any well-formed tables: the theorems to read. Their labour stands elsewhere. Assumes nothing.
 -- Beside them: `command_kept`, `never_stuck` (Accepted), `command_stays` (Kept), `links_bound` (Bound), `given_exactly`, `end_refused`, `refused_unchanged` (Refused), `emptying_answers`, `empty_is` (Emptied), `rows_in_order` (InOrder), and the laws of Steps.
+use Rattle.std.specs.Prelude.{Some}
 use mathlib.Core.Path.{◌≡◌, refl, sym, ap, ◌∙◌, subst}
 use mathlib.Core.Logic.{◌⊎◌, inl, ◌↔◌}
 use mathlib.Core.Bool.{true, false}
 use mathlib.Core.List.{List, [], ◌∷◌}
-use mathlib.Core.Option.{some}
 use Prim.Native.Nat.{ℕ, suc, ◌+◌, ◌≤◌, ◌<◌, ◌%◌, ◌^◌}
 use native.Mathlib.Omega.{arith}
 use lib.Dec.{leb, ltb}
@@ -73,7 +73,7 @@ module _ (s : St) (rows : ℕ) (ws : List ℤ) (w : WellFormed s) (ok : (command
   told e j = subst (λ (r : List Row). In e (whos r)) (rows_are s rows ws ok) j
 
   -- a new effect has at most 1 row, a set or add at depth 0 or an end at depth 1 at most as many as effects are live at entry, any other command none
-  pub rows_few : (c : Command) → command_of ws ≡ some c → runs a ≤ (asks_of c).rows (sight_of s rows)
+  pub rows_few : (c : Command) → command_of ws ≡ Some c → runs a ≤ (asks_of c).rows (sight_of s rows)
   rows_few c q = subst (λ (r : List Row). length r ≤ (asks_of c).rows (sight_of s rows)) (sym (rows_are s rows ws ok)) (command_told s rows w ws c q ok).few
 
   -- no effect runs twice
@@ -81,7 +81,7 @@ module _ (s : St) (rows : ℕ) (ws : List ℤ) (w : WellFormed s) (ok : (command
   rows_once = let k = known s rows ws ok in subst (λ (r : List Row). Once (whos r)) (sym (rows_are s rows ws ok)) (command_told s rows w ws k.0 k.1 ok).once
 
   -- each row is of the new effect, or of an effect live at entry in a command that flushes
-  pub rows_whose : (c : Command) → command_of ws ≡ some c → (e : ℕ) → In e (whos a.rows) → MayRun s c e
+  pub rows_whose : (c : Command) → command_of ws ≡ Some c → (e : ℕ) → In e (whos a.rows) → MayRun s c e
   rows_whose c q e j = (command_told s rows w ws c q ok).whose e (told e j)
 
   -- no effect runs that was gone
@@ -93,12 +93,12 @@ module _ (s : St) (rows : ℕ) (ws : List ℤ) (w : WellFormed s) (ok : (command
       go (flushed f l k g) = g
 
   -- a new effect has one row, of its number and its value, and its number is answered
-  pub new_effect_runs : (o : ℤ) (cs : List ℤ) → command_of ws ≡ some (make_effect o cs) → (a.rows ≡ first_row (with_log s []) (owner_of o) (formula_of cs) ∷ []) × (a.val ≡ number s)
+  pub new_effect_runs : (o : ℤ) (cs : List ℤ) → command_of ws ≡ Some (make_effect o cs) → (a.rows ≡ first_row (with_log s []) (owner_of o) (formula_of cs) ∷ []) × (a.val ≡ number s)
   unfolding perform
   new_effect_runs o cs q = let p = (performed s rows ws (make_effect o cs) q ok).0 in (ap (λ (z : Answer). z.rows) p ∙ new_row (with_log s []) (owner_of o) (formula_of cs), ap (λ (z : Answer). z.val) p)
 
   -- where no effect is new and nothing is flushed there is no row
-  pub no_rows : (c : Command) → command_of ws ≡ some c → ((o : ℤ) (cs : List ℤ) → c ≡ make_effect o cs → ⊥) → flushes c s.depth ≡ false → a.rows ≡ []
+  pub no_rows : (c : Command) → command_of ws ≡ Some c → ((o : ℤ) (cs : List ℤ) → c ≡ make_effect o cs → ⊥) → flushes c s.depth ≡ false → a.rows ≡ []
   unfolding whos
   no_rows c q plain still = go a.rows (λ e j. none_may (rows_whose c q e j))
     where
@@ -119,13 +119,13 @@ module _ (s : St) (rows : ℕ) (ws : List ℤ) (w : WellFormed s) (ok : (command
       bare y h (gone_below t formed x y g (below_stays s t w (command_stays true s rows ws).owner x y h b) (omega arith))
 
   -- a rerun effect disposes everything it owns: e has run, n is below a node y that e owned
-  pub rerun_disposes : (e y n : ℕ) → In e (whos a.rows) → s.owner y ≡ some e → Below s.owner y n → y < s.size → n < s.size → Bare t n
+  pub rerun_disposes : (e y n : ℕ) → In e (whos a.rows) → s.owner y ≡ Some e → Below s.owner y n → y < s.size → n < s.size → Bare t n
   rerun_disposes e y n j q b h l =
       let k = known s rows ws ok in
       all_below y n ((command_told s rows w ws k.0 k.1 ok).disposes e y (told e j) h q) b l
 
   -- ---- a dispose of x
-  module _ (x : ℕ) (is : command_of ws ≡ some (dispose_of (pos x))) where
+  module _ (x : ℕ) (is : command_of ws ≡ Some (dispose_of (pos x))) where
     -- x is gone, with all it owns
     pub gone_with_all : (n : ℕ) → Below s.owner x n → n < s.size → Bare t n
     gone_with_all n b h = all_below x n (disposal s rows w ws x is ok).gone b h
@@ -139,7 +139,7 @@ module _ (s : St) (rows : ℕ) (ws : List ℤ) (w : WellFormed s) (ok : (command
     reserve_comes_back = reserve_back s t formed (disposal s rows w ws x is ok).keeps
 
   -- ---- a set or add, which writes x to the signal n
-  module _ (c : Command) (n : ℕ) (x : Value) (is : command_of ws ≡ some c) (wr : Writes s c n x) where
+  module _ (c : Command) (n : ℕ) (x : Value) (is : command_of ws ≡ Some c) (wr : Writes s c n x) where
     stored : t ≡ store (with_log s []) n x
     stored = ap (λ (z : Answer). z.st) (performed s rows ws c is ok).0 ∙ writes_store s wr
 
@@ -147,7 +147,7 @@ module _ (s : St) (rows : ℕ) (ws : List ℤ) (w : WellFormed s) (ok : (command
     unfolding table wrong_node asks_of
     to_signal = go wr (performed s rows ws c is ok).1
       where
-        go : {c : Command} {n : ℕ} {x : Value} → Writes s c n x → NoneHolds (table true (sight_of s rows) (some c)) → s.kind n ≡ signal
+        go : {c : Command} {n : ℕ} {x : Value} → Writes s c n x → NoneHolds (table true (sight_of s rows) (Some c)) → s.kind n ≡ signal
         go (sets n v) h = is_signal s rows w (s.kind (node_of n)) (taken s rows w a_signal n (h 2)).1
         go (adds n v) h = is_signal s rows w (s.kind (node_of n)) (taken s rows w a_signal n (h 2)).1
 
@@ -168,34 +168,34 @@ module _ (s : St) (rows : ℕ) (ws : List ℤ) (w : WellFormed s) (ok : (command
     write_flushes e h = stored ∙ stores_flush (with_log s []) n x to_signal e h (w.queued.at_depth_0 h)
 
   -- and so at the end of the outermost batch
-  pub end_runs_queue : command_of ws ≡ some batch_end → s.depth ≡ 1 → t ≡ flushing (length s.queue) (with_depth (with_log s []) 0) s.queue
+  pub end_runs_queue : command_of ws ≡ Some batch_end → s.depth ≡ 1 → t ≡ flushing (length s.queue) (with_depth (with_log s []) 0) s.queue
   unfolding perform
   end_runs_queue is h = ap (λ (z : Answer). z.st) (performed s rows ws batch_end is ok).0 ∙ end_flushes (with_log s []) h
 
   -- a start, and the end of an inner batch, change the depth and nothing else
-  pub start_deepens : command_of ws ≡ some batch_start → t ≡ with_depth (with_log s []) (suc s.depth)
+  pub start_deepens : command_of ws ≡ Some batch_start → t ≡ with_depth (with_log s []) (suc s.depth)
   unfolding perform
   start_deepens is = ap (λ (z : Answer). z.st) (performed s rows ws batch_start is ok).0
 
-  pub inner_end : command_of ws ≡ some batch_end → (d : ℕ) → s.depth ≡ suc (suc d) → t ≡ with_depth (with_log s []) (suc d)
+  pub inner_end : command_of ws ≡ Some batch_end → (d : ℕ) → s.depth ≡ suc (suc d) → t ≡ with_depth (with_log s []) (suc d)
   unfolding perform
   inner_end is d h = ap (λ (z : Answer). z.st) (performed s rows ws batch_end is ok).0 ∙ ap (end_at (with_log s [])) h
 
   -- a new computed is not yet evaluated
-  pub new_computed_waits : (cs : List ℤ) → command_of ws ≡ some (make_computed cs) → t.fl s.size ≡ f0
+  pub new_computed_waits : (cs : List ℤ) → command_of ws ≡ Some (make_computed cs) → t.fl s.size ≡ f0
   unfolding perform new_computed
   new_computed_waits cs is = ap (λ (z : Answer). z.st.fl s.size) (performed s rows ws (make_computed cs) is ok).0 ∙ up_same _ s.size f0
 
   -- ---- who goes
   -- of the nodes there were: what is disposed, and what effects with a row owned, with all below them; nothing else
-  pub goes_exactly : (c : Command) → command_of ws ≡ some c → (n : ℕ) → n < s.size → s.gone n ≡ false → (t.gone n ≡ true) ↔ MustGo s c (whos a.rows) n
+  pub goes_exactly : (c : Command) → command_of ws ≡ Some c → (n : ℕ) → n < s.size → s.gone n ≡ false → (t.gone n ≡ true) ↔ MustGo s c (whos a.rows) n
   goes_exactly c q n h f = (λ g. subst (λ (r : List Row). MustGo s c (whos r) n) (sym (rows_are s rows ws ok)) ((command_told s rows w ws c q ok).goes n h (owns g) f g), go)
     where
       owns : t.gone n ≡ true → readable (s.kind n) ≡ false
       owns g = either (readable (s.kind n)) (λ r. clash g (let m = (command_stays true s rows ws).more in formed.depends.gone_kind n (omega arith) (ap readable ((command_stays true s rows ws).kind n h) ∙ r))) (λ r. r)
 
       go : MustGo s c (whos a.rows) n → t.gone n ≡ true
-      go (disposed x e b) = (gone_with_all x (q ∙ ap some e) n b h).0
+      go (disposed x e b) = (gone_with_all x (q ∙ ap Some e) n b h).0
       go (had e j p) = let l = below_high s.owner s.size w.depends.owner_lower p.0 n h p.2 in (rerun_disposes e p.0 n j p.1 p.2 (omega arith) h).0
 
   -- what is new is not gone
@@ -203,15 +203,15 @@ module _ (s : St) (rows : ℕ) (ws : List ℤ) (w : WellFormed s) (ok : (command
   new_lives = let k = known s rows ws ok in (command_told s rows w ws k.0 k.1 ok).lives
 
   -- why a read is not stuck for want of a value: the node is clean then (flags 1; only flags 0 means no value), and its stored value is the answer. In a formula: `m_settled` (Reading)
-  pub read_has_value : (n : ℤ) → command_of ws ≡ some (read_of n) → (t.fl (node_of n) ≡ f1) × (a.val ≡ t.sto (node_of n))
+  pub read_has_value : (n : ℤ) → command_of ws ≡ Some (read_of n) → (t.fl (node_of n) ≡ f1) × (a.val ≡ t.sto (node_of n))
   read_has_value n is = read_valued s rows w ws n is ok
 
   -- reading a signal that was written moves pending to current and, if that changed it, marks its pending subscribers dirty
-  pub read_takes_pending : (n : ℤ) → command_of ws ≡ some (read_of n) → s.kind (node_of n) ≡ signal → s.fl (node_of n) ≡ f17 → Takes s (node_of n) t
+  pub read_takes_pending : (n : ℤ) → command_of ws ≡ Some (read_of n) → s.kind (node_of n) ≡ signal → s.fl (node_of n) ≡ f17 → Takes s (node_of n) t
   read_takes_pending n is = read_takes s rows w ws n is ok
 
   -- the value is that of the table of commands, and the nodes are one more or as many
-  pub answers_value : (c : Command) → command_of ws ≡ some c → (a.val ≡ value_of s t c) × (t.size ≡ s.size + made_by c)
+  pub answers_value : (c : Command) → command_of ws ≡ Some c → (a.val ≡ value_of s t c) × (t.size ≡ s.size + made_by c)
   answers_value c q =
       let p = (performed s rows ws c q ok).0 in (
         ap (λ (z : Answer). z.val) p ∙ perform_worth s c ∙ ap (λ (z : Answer). value_of s z.st c) (sym p),
@@ -223,7 +223,7 @@ module _ (s : St) (rows : ℕ) (ws : List ℤ) (w : WellFormed s) (ok : (command
   room_kept = let x = room_at_rest s w in let y = room_at_rest t formed in (x.0, x.1, y.0, y.1)
 
   -- ---- every moment of it
-  module _ (c : Command) (is : command_of ws ≡ some c) where
+  module _ (c : Command) (is : command_of ws ≡ Some c) where
     -- it is made of steps: from the empty log, with the node that it makes, to its end
     pub made_of_steps : Steps (begun (with_log s []) c) t
     made_of_steps = subst (λ (x : Answer). Steps (begun (with_log s []) c) x.st) (sym (performed s rows ws c is ok).0) (perform_steps (with_log s []) c)

@@ -1,9 +1,9 @@
 -- Each refusal number is given exactly when its row holds and no lower number applies; a refused command changes nothing. Assumes nothing.
+use Rattle.std.specs.Prelude.{Option, Some}
 use mathlib.Core.Path.{◌≡◌, refl, sym, ap, ◌∙◌, subst}
 use mathlib.Core.Logic.{◌⊎◌, inl, inr, ◌↔◌}
 use mathlib.Core.Bool.{Bool, true, false, not}
 use mathlib.Core.List.{List, [], ◌∷◌}
-use mathlib.Core.Option.{Option, some}
 use Prim.Native.Nat.{ℕ, zero, suc, ◌+◌, ◌<◌, ◌≤◌}
 use native.Mathlib.Omega.{arith}
 use lib.Dec.{leb}
@@ -127,11 +127,11 @@ module _ (well : Bool) (s : St) (rows : ℕ) (ws : List ℤ) where
   batch true = batch_start
   batch false = batch_end
 
-  by_depth : well ≡ true → (b : Bool) → command_of ws ≡ some (batch b) → wrong_depth (sight_of s rows) (batch b) ≡ true → (command well s rows ws).code ≡ 8
+  by_depth : well ≡ true → (b : Bool) → command_of ws ≡ Some (batch b) → wrong_depth (sight_of s rows) (batch b) ≡ true → (command well s rows ws).code ≡ 8
   unfolding table unknown wrong_node gone_node bad_formula too_high no_room wrong_depth asks_of
   by_depth a b q e = (given_exactly 7).1 (subst (λ (o : Option Command). FirstHolds (table well (sight_of s rows) o) 7) (sym q) (e, λ j l. before b j l))
     where
-      before : (b : Bool) (j : ℕ) → j < 7 → get_or (table well (sight_of s rows) (some (batch b))) j false ≡ false
+      before : (b : Bool) (j : ℕ) → j < 7 → get_or (table well (sight_of s rows) (Some (batch b))) j false ≡ false
       before b zero l = ap not a
       before true (suc zero) l = refl
       before true (suc (suc zero)) l = refl
@@ -148,12 +148,12 @@ module _ (well : Bool) (s : St) (rows : ℕ) (ws : List ℤ) where
       before b (suc (suc (suc (suc (suc (suc (suc j))))))) l = absurd (omega arith)
 
   -- an end at depth 0 is refused by 8: over lists it would be stuck (`no_end`)
-  pub end_refused : well ≡ true → command_of ws ≡ some batch_end → s.depth ≡ 0 → (command well s rows ws).code ≡ 8
+  pub end_refused : well ≡ true → command_of ws ≡ Some batch_end → s.depth ≡ 0 → (command well s rows ws).code ≡ 8
   unfolding wrong_depth asks_of
   end_refused a q e = by_depth a false q (eq-eqb s.depth 0 e)
 
   -- and a start at depth 64
-  pub start_refused : well ≡ true → command_of ws ≡ some batch_start → s.depth ≡ most_depth → (command well s rows ws).code ≡ 8
+  pub start_refused : well ≡ true → command_of ws ≡ Some batch_start → s.depth ≡ most_depth → (command well s rows ws).code ≡ 8
   unfolding wrong_depth asks_of
   start_refused a q e = by_depth a true q (ap (leb most_depth) e)
 

@@ -1,9 +1,9 @@
 -- A relation between the state before and after that holds of an operation's own steps, and from step to step, holds of the operation.
 -- The first ring (unlink, unwatched, dispose, purge), the second (read, check, update, evaluation), runs and the flush. Assumes nothing.
+use Rattle.std.specs.Prelude.{Option, None, Some}
 use mathlib.Core.Path.{◌≡◌, refl, subst}
 use mathlib.Core.Bool.{Bool, true, false, not, ◌&&◌}
 use mathlib.Core.List.{List, [], ◌∷◌}
-use mathlib.Core.Option.{Option, none, some}
 use Prim.Native.Nat.{ℕ, zero, suc, ◌+◌}
 use native.Mathlib.Omega.{arith}
 use Rattle.flags.specs.declared.Named.{Named}
@@ -48,8 +48,8 @@ module _ (R : St → St → Type 0) (r : Drops R) where
 
   last_ring : (ul : St → ℕ → St) → ((s : St) (l : ℕ) → R s (ul s l)) → (o : Option ℕ) (s : St) → R s (last_link ul s o)
   unfolding last_link
-  last_ring ul h none s = r.same s
-  last_ring ul h (some l) s = h s l
+  last_ring ul h None s = r.same s
+  last_ring ul h (Some l) s = h s l
 
   -- a disposal from the gone mark on
   marked_ring : (ul : St → ℕ → St) → ((s : St) (l : ℕ) → R s (ul s l)) → (s : St) (x : ℕ) → R (set_gone (set_fl (rewind s x) x f0) x true) (dispose_w ul s x)

@@ -1,9 +1,9 @@
 -- Room: each live link is paid for by a node, and a node that has not spent its reserve finds a free slot. Assumes nothing.
+use Rattle.std.specs.Prelude.{Option, None, Some}
 use mathlib.Core.Path.{◌≡◌, refl, sym, ap, ap₂, ◌∙◌, subst}
 use mathlib.Core.Logic.{◌⊎◌, inl, inr}
 use mathlib.Core.Bool.{Bool, true, false, not}
 use mathlib.Core.List.{List, [], ◌∷◌, ◌++◌, append-nil}
-use mathlib.Core.Option.{Option, none, some}
 use Prim.Native.Nat.{ℕ, zero, suc, ◌+◌, ◌≤◌, ◌<◌}
 use native.Mathlib.Omega.{arith}
 use lib.Dec.{leb, ltb}
@@ -48,8 +48,8 @@ module _ (g : Given) (st : Static g) where
   owner_links_few s n r a w = go (g.owner n) refl
     where
       go : (o : Option ℕ) → g.owner n ≡ o → length (s.subs n) ≤ owned_link o
-      go none e = let z = ap length (w.unowned r e) in omega arith
-      go (some o) e = let z = ap length (w.owned o a e).1 in omega arith
+      go None e = let z = ap length (w.unowned r e) in omega arith
+      go (Some o) e = let z = ap length (w.owned o a e).1 in omega arith
 
   pub rests_paid : (X : Set) (s : St) (n : ℕ) → Inside g X s → n < g.size → Rests g s n → Paid g s n
   unfolding read_links

@@ -1,9 +1,9 @@
 -- A flush runs live effects only, none twice, and what a run effect owned is gone, and nothing else: so its rows are at most the effects live at entry. Assumes nothing.
+use Rattle.std.specs.Prelude.{Some}
 use mathlib.Core.Path.{◌≡◌, refl, sym, ap, ap₂, ◌∙◌, subst}
 use mathlib.Core.Logic.{◌⊎◌, inl, inr}
 use mathlib.Core.Bool.{Bool, true, false, not, ◌&&◌}
 use mathlib.Core.List.{List, [], ◌∷◌, ◌++◌, append_assoc, append-nil}
-use mathlib.Core.Option.{some}
 use Prim.Native.Nat.{ℕ, suc, ◌≤◌, ◌<◌}
 use native.Mathlib.Omega.{arith}
 use lib.ListN.{length, length-append}
@@ -36,7 +36,7 @@ module _ (g : Given) (st : Static g) where
     pub ran : Ran rows q
     pub lives : (e : ℕ) → In e (whos rows) → s.gone e ≡ false
     -- what they owned is gone
-    pub disposed : (e y : ℕ) → In e (whos rows) → y < g.size → g.owner y ≡ some e → t.gone y ≡ true
+    pub disposed : (e y : ℕ) → In e (whos rows) → y < g.size → g.owner y ≡ Some e → t.gone y ≡ true
     -- and nothing else goes
     pub goes : (n : ℕ) → n < g.size → readable (g.kind n) ≡ false → s.gone n ≡ false → t.gone n ≡ true → (e : ℕ) × In e (whos rows) × Owned g.owner e n
     -- an effect that is still live and has no row keeps its read links
@@ -60,7 +60,7 @@ module _ (g : Given) (st : Static g) where
       after_run n a = either ((run (with_queue s q) e).gone n) (λ b. clash ((flush_on-keeps q (run (with_queue s q) e)).gone n b) a) (λ b. b)
 
       go : ((m : ℕ) → m < g.size → g.kind m ≡ effect → (run (with_queue s q) e).gone m ≡ false → SameReads g.kind s (run (with_queue s q) e) m ⊎ ((m ≡ e) × ((run (with_queue s q) e).log ≡ s.log → ⊥)))
-          → (((run (with_queue s q) e).log ≡ s.log → ⊥) → (y : ℕ) → y < g.size → g.owner y ≡ some e → (run (with_queue s q) e).gone y ≡ true)
+          → (((run (with_queue s q) e).log ≡ s.log → ⊥) → (y : ℕ) → y < g.size → g.owner y ≡ Some e → (run (with_queue s q) e).gone y ≡ true)
           → ((m : ℕ) → readable (g.kind m) ≡ false → (((run (with_queue s q) e).log ≡ s.log → ⊥) → Below g.owner e m × (m ≡ e → ⊥) → ⊥) → (run (with_queue s q) e).gone m ≡ s.gone m) → (s.gone e ≡ true → s.fl e ≡ f0) → Logs (with_queue s q) e (run (with_queue s q) e) → Rows (run (with_queue s q) e) (flush_on (run (with_queue s q) e) q) q → Rows s (flush_on (run (with_queue s q) e) q) (e ∷ q)
       go rd own spare calm (inl p) f = record {
         rows = f.rows;
@@ -107,8 +107,8 @@ module _ (g : Given) (st : Static g) where
           not_gone : s.gone e ≡ true → ⊥
           not_gone a = has_row (ap (λ (z : St). z.log) (no_flag_no_run (with_queue s q) e (calm a)))
 
-          owned_by : (n y : ℕ) → In n (p.0.who ∷ whos f.rows) → y < g.size → g.owner y ≡ some n → (flush_on (run (with_queue s q) e) q).gone y ≡ true
-          owned_by n y (inl z) h o = (flush_on-keeps q (run (with_queue s q) e)).gone y (own has_row y h (o ∙ ap some (z ∙ p.1)))
+          owned_by : (n y : ℕ) → In n (p.0.who ∷ whos f.rows) → y < g.size → g.owner y ≡ Some n → (flush_on (run (with_queue s q) e) q).gone y ≡ true
+          owned_by n y (inl z) h o = (flush_on-keeps q (run (with_queue s q) e)).gone y (own has_row y h (o ∙ ap Some (z ∙ p.1)))
           owned_by n y (inr j) h o = f.disposed n y j h o
 
           here : (n : ℕ) → In n (p.0.who ∷ whos f.rows) → s.gone n ≡ false

@@ -1,9 +1,9 @@
 -- Reads, runs and the flush keep well-formedness and are not stuck. Assumes nothing.
+use Rattle.std.specs.Prelude.{Option, None, Some}
 use mathlib.Core.Path.{◌≡◌, refl, sym, ap, ap₂, ◌∙◌, subst}
 use mathlib.Core.Logic.{◌⊎◌, inl, inr}
 use mathlib.Core.Bool.{Bool, true, false}
 use mathlib.Core.List.{List, [], ◌∷◌, ◌++◌, append-nil}
-use mathlib.Core.Option.{Option, none, some}
 use Prim.Native.Nat.{ℕ, suc, ◌+◌, ◌≤◌, ◌<◌}
 use native.Mathlib.Omega.{arith}
 use lib.Dec.{eqb}
@@ -65,7 +65,7 @@ module _ (g : Given) (st : Static g) where
     read_marks = read_settles.frame.gone
 
   -- who has read links only has lost what it owned
-  pub owned_gone : (t : St) → Inside g nobody t → (e : ℕ) → ((l : ℕ) → In l (deps t e) → readable (g.kind (t.dep l)) ≡ true) → (y : ℕ) → y < g.size → g.owner y ≡ some e → t.gone y ≡ true
+  pub owned_gone : (t : St) → Inside g nobody t → (e : ℕ) → ((l : ℕ) → In l (deps t e) → readable (g.kind (t.dep l)) ≡ true) → (y : ℕ) → y < g.size → g.owner y ≡ Some e → t.gone y ≡ true
   owned_gone t i e all y h q = either (t.gone y) (λ a. a) (λ a.
       let x = (i.rests y h (λ z. z)).owned e a q in
       let lv = i.lists.subs_live x.0 y (subst (In x.0) (sym x.1) (inl refl)) in
@@ -74,8 +74,8 @@ module _ (g : Given) (st : Static g) where
 
   -- ---- an effect e under way: its owner's link, and its own links
   pub record Owns (s : St) (e : ℕ) : Type 0 where
-    pub owned : (o : ℕ) → g.owner e ≡ some o → (l : ℕ) × (s.subs e ≡ l ∷ []) × (s.sub l ≡ o)
-    pub unowned : g.owner e ≡ none → s.subs e ≡ []
+    pub owned : (o : ℕ) → g.owner e ≡ Some o → (l : ℕ) × (s.subs e ≡ l ∷ []) × (s.sub l ≡ o)
+    pub unowned : g.owner e ≡ None → s.subs e ≡ []
     pub alive : s.gone e ≡ false
 
   pub record Lies (s : St) (e : ℕ) : Type 0 where
@@ -128,8 +128,8 @@ module _ (g : Given) (st : Static g) where
     owner_few s l = go (g.owner e) refl
       where
         go : (o : Option ℕ) → g.owner e ≡ o → length (s.subs e) ≤ owned_link o
-        go none q = let z = ap length (l.unowned q) in omega arith
-        go (some o) q = let z = ap length (l.owned o q).1 in omega arith
+        go None q = let z = ap length (l.unowned q) in omega arith
+        go (Some o) q = let z = ap length (l.owned o q).1 in omega arith
 
     -- the owner is no computed and not e
     owner_far : (s : St) (X : Set) → Inside g X s → (l : ℕ) → s.subs e ≡ l ∷ [] → (s.live l ≡ true) × (Near g st e (s.sub l) → ⊥)
@@ -157,7 +157,7 @@ module _ (g : Given) (st : Static g) where
 
     -- what e owns is gone
     abbrev Disposed : St → Type 0
-    Disposed t = (y : ℕ) → y < g.size → g.owner y ≡ some e → t.gone y ≡ true
+    Disposed t = (y : ℕ) → y < g.size → g.owner y ≡ Some e → t.gone y ≡ true
 
     -- nothing else goes
     abbrev Spared : St → St → Type 0

@@ -1,8 +1,8 @@
 -- A command is made of steps, from where it begins to its end; and where it begins the live links and the reserve are under its bound. Assumes nothing.
+use Rattle.std.specs.Prelude.{Option, None, Some}
 use mathlib.Core.Path.{◌≡◌, refl, ◌∙◌}
 use mathlib.Core.Bool.{Bool, true, false}
 use mathlib.Core.List.{List, []}
-use mathlib.Core.Option.{Option, none, some}
 use Prim.Native.Nat.{ℕ, zero, suc, ◌+◌, ◌≤◌}
 use native.Mathlib.Omega.{arith}
 use lib.IntN.{ℤ, pos}
@@ -85,8 +85,8 @@ store_steps s n v =
     provided_by (Steps s) (a_signal (s.kind n)) w (later w (others _ refl (λ e. refl)))
 
 owned_steps : (s : St) (n : ℕ) (o : Option ℕ) → Steps s (owned s n o)
-owned_steps s n none = here
-owned_steps s n (some o) = one (links n o 0)
+owned_steps s n None = here
+owned_steps s n (Some o) = one (links n o 0)
 
 end_steps : (s : St) (d : ℕ) → Steps s (end_at s d)
 end_steps s zero = one (others _ refl (λ e. refl))
@@ -125,8 +125,8 @@ begun_stuck s batch_end = refl
 
 any_sticks : (s : St) (c : Option Command) → s.stuck ≡ true → (perform_any s c).st.stuck ≡ true
 unfolding perform_any
-any_sticks s none e = refl
-any_sticks s (some c) e = steps_stick (begun s c) (perform s c).st (perform_steps s c) (begun_stuck s c ∙ e)
+any_sticks s None e = refl
+any_sticks s (Some c) e = steps_stick (begun s c) (perform s c).st (perform_steps s c) (begun_stuck s c ∙ e)
 
 pub command_sticks : (well : Bool) (s : St) (rows : ℕ) (ws : List ℤ) → s.stuck ≡ true → (command well s rows ws).st.stuck ≡ true
 unfolding command answer
@@ -165,10 +165,10 @@ module _ (s : St) (rows : ℕ) (w : WellFormed s) where
   unfolding reserve
   makes k t o b v fits = (made_within (with_log s []) w' k t o b v fits, fits.slots)
 
-  pub begun_within : (c : Command) → NoneHolds (table true (sight_of s rows) (some c)) → Begins s c
+  pub begun_within : (c : Command) → NoneHolds (table true (sight_of s rows) (Some c)) → Begins s c
   unfolding asks_of
-  begun_within (make_signal v) h = makes signal (constant (pos 0)) none f1 (value v) (signal_fits s rows w v h)
-  begun_within (make_computed cs) h = makes computed (formula_of cs) none f0 nothing (computed_fits s rows w cs h)
+  begun_within (make_signal v) h = makes signal (constant (pos 0)) None f1 (value v) (signal_fits s rows w v h)
+  begun_within (make_computed cs) h = makes computed (formula_of cs) None f0 nothing (computed_fits s rows w cs h)
   begun_within (make_effect o cs) h = makes effect (formula_of cs) (owner_of o) f6 nothing (effect_fits s rows w o cs h)
   begun_within (make_scope o) h = makes scope (constant (pos 0)) (owner_of o) f0 nothing (scope_fits s rows w o h)
   begun_within (set_to n v) h = stays

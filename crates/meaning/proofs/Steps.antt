@@ -1,8 +1,8 @@
 -- What single steps do, read off the definitions: a run, unwatched, the gone mark. Assumes nothing.
+use Rattle.std.specs.Prelude.{Option, None, Some}
 use mathlib.Core.Path.{◌≡◌, refl, ap}
 use mathlib.Core.Bool.{true, false}
 use mathlib.Core.List.{List, [], ◌∷◌}
-use mathlib.Core.Option.{Option, none, some}
 use Prim.Native.Nat.{ℕ, suc}
 use Rattle.flags.specs.declared.Named.{Named}
 use Rattle.meaning.specs.State.{St, effect, f0, f2, f6, f17, raised}
@@ -77,5 +77,5 @@ dispose_marks ul s x keeps =
     all (l ∷ ls) t e = all ls (ul t l) (keeps t l e)
 
     last : (t : St) (o : Option ℕ) → t.gone x ≡ true → (last_link ul t o).gone x ≡ true
-    last t none e = e
-    last t (some l) e = keeps t l e
+    last t None e = e
+    last t (Some l) e = keeps t l e

@@ -1,8 +1,8 @@
 -- What no read changes: everything but flags, stored values, links, the cycle and the gone marks; and gone is for good. Assumes nothing.
+use Rattle.std.specs.Prelude.{Option}
 use mathlib.Core.Path.{◌≡◌, refl, ap, ◌∙◌}
 use mathlib.Core.Bool.{Bool, true}
 use mathlib.Core.List.{List, [], ◌∷◌}
-use mathlib.Core.Option.{Option}
 use Prim.Native.Nat.{ℕ}
 use Rattle.values.specs.declared.Value.{Value}
 use Rattle.trees.specs.Trees.{Tree}

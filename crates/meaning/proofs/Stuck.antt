@@ -1,8 +1,8 @@
 -- Stuck: where an operation cannot go on it says so; and what is stuck stays stuck. So "not stuck after a command" says that nothing in it was. Assumes nothing.
+use Rattle.std.specs.Prelude.{None}
 use mathlib.Core.Path.{◌≡◌, refl, ap, ◌∙◌}
 use mathlib.Core.Bool.{Bool, true, false, not, ◌&&◌}
 use mathlib.Core.List.{List, [], ◌∷◌, ◌++◌, reverse}
-use mathlib.Core.Option.{none}
 use Prim.Native.Nat.{ℕ, zero, suc}
 use lib.Dec.{ltb}
 use lib.ListN.{length}
@@ -94,7 +94,7 @@ pub no_end : (s : St) → s.depth ≡ 0 → (perform s batch_end).st.stuck ≡ t
 unfolding perform
 no_end s e = ap (λ (d : ℕ). (end_at s d).stuck) e
 
-pub no_command : (s : St) → (perform_any s none).st.stuck ≡ true
+pub no_command : (s : St) → (perform_any s None).st.stuck ≡ true
 unfolding perform_any
 no_command s = refl
 

@@ -1,9 +1,9 @@
 -- What is read has a value: an accepted read leaves its node clean, never without any flag, and answers what is stored. A signal that was written
 -- takes its pending value then, and tells who may hang on it. Assumes nothing.
+use Rattle.std.specs.Prelude.{Some}
 use mathlib.Core.Path.{◌≡◌, refl, sym, ap, ◌∙◌, subst}
 use mathlib.Core.Bool.{Bool, true, false, not}
 use mathlib.Core.List.{List, []}
-use mathlib.Core.Option.{some}
 use Prim.Native.Nat.{ℕ, zero, suc, ◌<◌}
 use native.Mathlib.Omega.{arith}
 use lib.IntN.{ℤ}
@@ -61,7 +61,7 @@ module _ (s : St) (m : ℕ) where
       no_not true q = refl
       no_not false q = sym q
 
-module _ (s : St) (rows : ℕ) (w : WellFormed s) (ws : List ℤ) (n : ℤ) (is : command_of ws ≡ some (read_of n)) (ok : (command true s rows ws).code ≡ 0) where
+module _ (s : St) (rows : ℕ) (w : WellFormed s) (ws : List ℤ) (n : ℤ) (is : command_of ws ≡ Some (read_of n)) (ok : (command true s rows ws).code ≡ 0) where
   abbrev Valued : Answer → Type 0
   Valued a = (a.st.fl (node_of n) ≡ f1) × (a.val ≡ a.st.sto (node_of n))
 
@@ -71,7 +71,7 @@ module _ (s : St) (rows : ℕ) (w : WellFormed s) (ws : List ℤ) (n : ℤ) (is 
       let p = performed s rows ws (read_of n) is ok in
       subst Valued (sym p.0) (now p.1)
     where
-      now : NoneHolds (table true (sight_of s rows) (some (read_of n))) → Valued (accepted (perform (with_log s []) (read_of n)))
+      now : NoneHolds (table true (sight_of s rows) (Some (read_of n))) → Valued (accepted (perform (with_log s []) (read_of n)))
       now h =
           let wl = logless s rows w in
           let k = taken s rows w readable n (h 2) in

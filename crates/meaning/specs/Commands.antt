@@ -1,6 +1,5 @@
 -- Document 01, "Commands": deciding stands in Refusals; this is doing, the answer, and emptying.
-use Rattle.std.specs.Prelude.{Bool, true, false, List, [], ℕ, zero, suc, ℤ, pos, length}
-use Rattle.std.proofs.Math.Option.{Option, none, some}
+use Rattle.std.specs.Prelude.{Bool, true, false, List, [], ℕ, zero, suc, ℤ, pos, length, Option, None, Some}
 use Rattle.values.specs.declared.Value.{Value}
 use Rattle.values.specs.Values.{value, sum}
 use Rattle.meaning.specs.State.{St, Room, capacities, Row, nothing, empty}
@@ -37,8 +36,8 @@ perform s batch_start = back (start s) nothing
 perform s batch_end = back (end_at s s.depth) nothing
 
 unfoldable pub perform_any : St → Option Command → Done
-perform_any s none = back (stop s) nothing
-perform_any s (some c) = perform s c
+perform_any s None = back (stop s) nothing
+perform_any s (Some c) = perform s c
 
 -- ---- the answer: refusal number, value, and the log rows, which are the runs
 pub record Answer : Type 0 where

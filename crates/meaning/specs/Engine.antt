@@ -1,6 +1,5 @@
 -- Document 01, "Values, writes, flush", and the making of nodes.
-use Rattle.std.specs.Prelude.{true, false, List, [], ◌∷◌, ◌++◌, ℕ, zero, suc, ◌+◌, max, pos}
-use Rattle.std.proofs.Math.Option.{Option, none, some}
+use Rattle.std.specs.Prelude.{true, false, List, [], ◌∷◌, ◌++◌, ℕ, zero, suc, ◌+◌, max, pos, Option, None, Some}
 use Rattle.flags.specs.declared.Named.{Named}
 use Rattle.values.specs.declared.Value.{Value}
 use Rattle.values.specs.Values.{same}
@@ -62,8 +61,8 @@ height_of h t = suc (tallest h (names t))
 
 -- unowned 1; owned, owner's + 1
 abbrev pub depth_under : (ℕ → ℕ) → Option ℕ → ℕ
-depth_under h none = 1
-depth_under h (some o) = suc (h o)
+depth_under h None = 1
+depth_under h (Some o) = suc (h o)
 
 abbrev pub level_of : (ℕ → ℕ) → Kind → Tree → Option ℕ → ℕ
 level_of h k t o = elim k [ signal ↦ 0 | computed ↦ height_of h t | effect ↦ depth_under h o | scope ↦ depth_under h o ]
@@ -83,14 +82,14 @@ node s k t o b v =
 
 -- its owner depends on it
 abbrev pub owned : St → ℕ → Option ℕ → St
-owned s n none = s
-owned s n (some o) = link s n o 0
+owned s n None = s
+owned s n (Some o) = link s n o 0
 
 unfoldable pub new_signal : St → Value → St
-new_signal s v = node s signal (constant (pos 0)) none f1 v
+new_signal s v = node s signal (constant (pos 0)) None f1 v
 
 unfoldable pub new_computed : St → Tree → St
-new_computed s t = node s computed t none f0 nothing
+new_computed s t = node s computed t None f0 nothing
 
 unfoldable pub new_scope : St → Option ℕ → St
 new_scope s o = owned (node s scope (constant (pos 0)) o f0 nothing) s.size o

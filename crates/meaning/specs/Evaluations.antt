@@ -1,6 +1,5 @@
 -- How many evaluations a command makes: of formulas of computeds and effects. It follows the operations of Reads and Engine branch by branch.
-use Rattle.std.specs.Prelude.{Bool, true, false, List, [], ◌∷◌, ℕ, zero, suc, ◌+◌}
-use Rattle.std.proofs.Math.Option.{Option, none, some}
+use Rattle.std.specs.Prelude.{Bool, true, false, List, [], ◌∷◌, ℕ, zero, suc, ◌+◌, Option, None, Some}
 use Rattle.values.specs.declared.Value.{Value}
 use Rattle.values.specs.Values.{value, sum, same, is_zero}
 use Rattle.trees.specs.Trees.{Tree, constant, read, two, choose}

@@ -1,7 +1,5 @@
 -- Making and taking away links: link, and the ring of unlink, unwatched, dispose and purge.
-use Rattle.std.specs.Prelude.{Bool, true, false, not, ◌&&◌, ◌||◌, List, [], ◌∷◌, ◌++◌, ℕ, zero, suc, ◌+◌, eqb, leb, ltb, length}
-pub use mathlib.Core.List.{head? as head_of}
-use Rattle.std.proofs.Math.Option.{Option, none, some}
+use Rattle.std.specs.Prelude.{Bool, true, false, not, ◌&&◌, ◌||◌, List, [], ◌∷◌, ◌++◌, ℕ, zero, suc, ◌+◌, eqb, leb, ltb, length, Option, None, Some}
 use Rattle.meaning.specs.State.{St, on, f0, f17}
 use Rattle.meaning.specs.Reserve.{reserve}
 use Rattle.meaning.specs.Setters.{with_free, with_stuck, set_done, set_rest, set_subs, set_live, set_dep, set_sub, set_ver, set_fl, set_gone}
@@ -15,9 +13,13 @@ unfoldable pub provided : Bool → St → St
 provided b s = elim b [ true ↦ s | false ↦ stop s ]
 
 -- ---- lists of slots
+abbrev pub head_of : List ℕ → Option ℕ
+head_of [] = None
+head_of (x ∷ xs) = Some x
+
 abbrev pub last_of : List ℕ → Option ℕ
-last_of [] = none
-last_of (x ∷ xs) = elim (last_of xs) [ none ↦ some x | some y ↦ some y ]
+last_of [] = None
+last_of (x ∷ xs) = elim (last_of xs) [ None ↦ Some x | Some y ↦ Some y ]
 
 abbrev pub is_nil : List ℕ → Bool
 is_nil [] = true
@@ -83,8 +85,8 @@ abbrev pub purge_w : (St → ℕ → St) → St → ℕ → St
 purge_w ul s u = each ul s (s.rest u)
 
 unfoldable pub last_link : (St → ℕ → St) → St → Option ℕ → St
-last_link ul s none = s
-last_link ul s (some l) = ul s l
+last_link ul s None = s
+last_link ul s (Some l) = ul s l
 
 -- gone for good, with all links, the one to its owner last
 unfoldable pub dispose_w : (St → ℕ → St) → St → ℕ → St

@@ -1,6 +1,5 @@
 -- Marking what may be stale: notify, propagate, shallow propagate. Each is a function of what it changes: flags, queue, stuck.
-use Rattle.std.specs.Prelude.{Bool, true, false, not, ◌&&◌, ◌||◌, List, [], ◌∷◌, ◌++◌, reverse, ℕ, zero, suc, ◌+◌, leb, ltb, length}
-use Rattle.std.proofs.Math.Option.{Option, none, some}
+use Rattle.std.specs.Prelude.{Bool, true, false, not, ◌&&◌, ◌||◌, List, [], ◌∷◌, ◌++◌, reverse, ℕ, zero, suc, ◌+◌, leb, ltb, length, Option, None, Some}
 use Rattle.flags.specs.declared.Named.{Named}
 use Rattle.meaning.specs.State.{St, Kind, signal, computed, effect, scope, unclean, recursing, with_pending, with_dirty, with_watching, up}
 use Rattle.meaning.specs.Setters.{with_fl, with_queue, with_stuck}
@@ -28,7 +27,7 @@ halt m b = marks m.fl m.queue (m.stuck || b)
 -- e, its owner, the owner's owner, .. as long as the next one is watching
 unfoldable pub chain : ℕ → (ℕ → Option ℕ) → (ℕ → Named) → ℕ → List ℕ
 chain zero ow f e = e ∷ []
-chain (suc k) ow f e = e ∷ (elim (ow e) [ none ↦ [] | some o ↦ elim (f o).watching [ true ↦ chain k ow f o | false ↦ [] ] ])
+chain (suc k) ow f e = e ∷ (elim (ow e) [ None ↦ [] | Some o ↦ elim (f o).watching [ true ↦ chain k ow f o | false ↦ [] ] ])
 
 -- these watch no longer
 unfoldable pub calm : List ℕ → (ℕ → Named) → ℕ → Named

@@ -1,6 +1,5 @@
 -- A command on the way: after k runs of its flush; and at every moment, which is between any two of its steps.
-use Rattle.std.specs.Prelude.{◌≡◌, Bool, true, false, List, [], ◌∷◌, ℕ, zero, suc, ◌+◌, pos}
-use Rattle.std.proofs.Math.Option.{Option, none, some}
+use Rattle.std.specs.Prelude.{◌≡◌, Bool, true, false, List, [], ◌∷◌, ℕ, zero, suc, ◌+◌, pos, Option, None, Some}
 use Rattle.values.specs.Values.{value}
 use Rattle.trees.specs.Trees.{Tree, constant}
 use Rattle.meaning.specs.State.{St, Room, Kind, signal, computed, effect, scope, f0, f1, f6, nothing}
@@ -49,8 +48,8 @@ pub record Moment (s t x : St) : Type 0 where
 
 -- where the steps of a command begin: the node that it makes is there, without links
 abbrev pub begun : St → Command → St
-begun s (make_signal v) = node s signal (constant (pos 0)) none f1 (value v)
-begun s (make_computed cs) = node s computed (formula_of cs) none f0 nothing
+begun s (make_signal v) = node s signal (constant (pos 0)) None f1 (value v)
+begun s (make_computed cs) = node s computed (formula_of cs) None f0 nothing
 begun s (make_effect o cs) = node s effect (formula_of cs) (owner_of o) f6 nothing
 begun s (make_scope o) = node s scope (constant (pos 0)) (owner_of o) f0 nothing
 begun s (set_to n v) = s
@@ -62,8 +61,8 @@ begun s batch_end = s
 
 -- the reserve at entry, with the node that the command makes
 abbrev pub wanted : Option Kind → Tree → Option ℕ → ℕ
-wanted none t o = 0
-wanted (some k) t o = reserve_of k false t o
+wanted None t o = 0
+wanted (Some k) t o = reserve_of k false t o
 
 abbrev pub reserve_from : St → Command → ℕ
 reserve_from s c = reserve s + wanted (asks_of c).makes (tree_in (asks_of c).cells) (owner_of (asks_of c).owner)

@@ -1,14 +1,13 @@
 -- The order of a write: the plain depth-first walk over the subscriber links, and the climb over owners. Neither has a budget or a stack.
-use Rattle.std.specs.Prelude.{◌≡◌, true, false, List, [], ◌∷◌, ◌++◌, reverse, ℕ}
-use Rattle.std.proofs.Math.Option.{Option, some}
+use Rattle.std.specs.Prelude.{◌≡◌, true, false, List, [], ◌∷◌, ◌++◌, reverse, ℕ, Option, Some}
 use Rattle.flags.specs.declared.Named.{Named}
 use Rattle.meaning.specs.State.{St, unclean, with_pending, up}
 use Rattle.meaning.specs.Marks.{Marks, marks, calm}
 
 -- e, its owner, the owner's owner, ..: an owner that watches, go on; else stop
 pub data Climbed (owner : ℕ → Option ℕ) (f : ℕ → Named) : ℕ → List ℕ → Type 0 where
-  stops : {e : ℕ} → ((o : ℕ) → owner e ≡ some o → (f o).watching ≡ false) → Climbed owner f e (e ∷ [])
-  climbs : {e : ℕ} {c : List ℕ} (o : ℕ) → owner e ≡ some o → (f o).watching ≡ true → Climbed owner f o c → Climbed owner f e (e ∷ c)
+  stops : {e : ℕ} → ((o : ℕ) → owner e ≡ Some o → (f o).watching ≡ false) → Climbed owner f e (e ∷ [])
+  climbs : {e : ℕ} {c : List ℕ} (o : ℕ) → owner e ≡ Some o → (f o).watching ≡ true → Climbed owner f o c → Climbed owner f e (e ∷ c)
 
 -- u may be stale; if it watches, it is queued after its owners of the climb, the outermost first
 abbrev pub pending_at : Marks → ℕ → ℕ → Named

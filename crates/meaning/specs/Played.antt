@@ -1,6 +1,5 @@
 -- A script with the answers and the tables that an engine left: what the differential check compares.
-use Rattle.std.specs.Prelude.{◌≡◌, Bool, true, false, List, [], ◌∷◌, ℕ, zero, suc, ◌+◌, ℤ}
-use Rattle.std.proofs.Math.Option.{Option, none, some}
+use Rattle.std.specs.Prelude.{◌≡◌, Bool, true, false, List, [], ◌∷◌, ℕ, zero, suc, ◌+◌, ℤ, Option, None, Some}
 use Rattle.flags.specs.declared.Named.{Named}
 use Rattle.values.specs.declared.Value.{Value}
 use Rattle.meaning.specs.State.{St, Kind, signal, computed, effect, scope, Room, deps, has_value, empty}
@@ -23,13 +22,13 @@ sub_ends s (l ∷ ls) = (s.sub l, s.ver l) ∷ sub_ends s ls
 
 -- the value of a signal or of an evaluated computed
 abbrev pub shown_value : Kind → Named → Value → Option Value
-shown_value k f v = elim (has_value k f) [ true ↦ some v | false ↦ none ]
+shown_value k f v = elim (has_value k f) [ true ↦ Some v | false ↦ None ]
 
 abbrev pub shown_pending : Kind → Value → Option Value
-shown_pending signal v = some v
-shown_pending computed v = none
-shown_pending effect v = none
-shown_pending scope v = none
+shown_pending signal v = Some v
+shown_pending computed v = None
+shown_pending effect v = None
+shown_pending scope v = None
 
 -- flags, value, pending value, dependencies and subscribers with the versions of their links
 abbrev pub Line : Type 0

@@ -1,6 +1,5 @@
 -- Document 01, "Nine refusals, tried in number order". Refusals 2 to 9 see the state only through `Sight`.
-use Rattle.std.specs.Prelude.{Bool, true, false, not, ◌&&◌, ◌||◌, List, [], ◌∷◌, ℕ, zero, suc, ◌+◌, eqb, leb, ltb, ℤ, pos, negsuc}
-use Rattle.std.proofs.Math.Option.{Option, none, some}
+use Rattle.std.specs.Prelude.{Bool, true, false, not, ◌&&◌, ◌||◌, List, [], ◌∷◌, ℕ, zero, suc, ◌+◌, eqb, leb, ltb, ℤ, pos, negsuc, Option, None, Some}
 use Rattle.lists.specs.Sum.{bit, count}
 use Rattle.trees.specs.Trees.{Tree, constant, names}
 pub use Rattle.trees.specs.Names.{most_height}
@@ -46,7 +45,7 @@ pub record Asks : Type 0 where
   pub takes : Kind → Bool  -- of which kinds
   pub ends : Bool  -- to dispose it
   pub makes : Option Kind  -- a new node
-  pub owner : ℤ  -- with this owner, -1 if none
+  pub owner : ℤ  -- with this owner, -1 if None
   pub cells : Option (List ℤ)  -- and this formula
   pub barred : ℕ → Bool  -- at which depths it cannot be
   pub rows : Sight → ℕ  -- the log rows that it wants
@@ -60,21 +59,21 @@ abbrev pub flush_rows : Sight → ℕ → ℕ
 flush_rows v d = elim (eqb v.depth d) [ true ↦ v.effects | false ↦ 0 ]
 
 abbrev pub names_it : ℤ → (Kind → Bool) → Bool → (Sight → ℕ) → Asks
-names_it n p d w = record { node = some n; takes = p; ends = d; makes = none; owner = negsuc 0; cells = none; barred = λ d. false; rows = w }
+names_it n p d w = record { node = Some n; takes = p; ends = d; makes = None; owner = negsuc 0; cells = None; barred = λ d. false; rows = w }
 
 -- a new effect wants 1 row
 abbrev pub makes_it : Kind → ℤ → Option (List ℤ) → Asks
-makes_it k o cs = record { node = none; takes = readable; ends = false; makes = some k; owner = o; cells = cs; barred = λ d. false; rows = λ v. bit (is_effect k) }
+makes_it k o cs = record { node = None; takes = readable; ends = false; makes = Some k; owner = o; cells = cs; barred = λ d. false; rows = λ v. bit (is_effect k) }
 
 abbrev pub batches : (ℕ → Bool) → (Sight → ℕ) → Asks
-batches b w = record { node = none; takes = readable; ends = false; makes = none; owner = negsuc 0; cells = none; barred = b; rows = w }
+batches b w = record { node = None; takes = readable; ends = false; makes = None; owner = negsuc 0; cells = None; barred = b; rows = w }
 
 -- set and add: signals; read: signals and computeds; dispose and owner: effects and scopes
 unfoldable pub asks_of : Command → Asks
-asks_of (make_signal k) = makes_it signal (negsuc 0) none
-asks_of (make_computed cs) = makes_it computed (negsuc 0) (some cs)
-asks_of (make_effect o cs) = makes_it effect o (some cs)
-asks_of (make_scope o) = makes_it scope o none
+asks_of (make_signal k) = makes_it signal (negsuc 0) None
+asks_of (make_computed cs) = makes_it computed (negsuc 0) (Some cs)
+asks_of (make_effect o cs) = makes_it effect o (Some cs)
+asks_of (make_scope o) = makes_it scope o None
 asks_of (set_to n k) = names_it n a_signal false (λ v. flush_rows v 0)
 asks_of (add_to n k) = names_it n a_signal false (λ v. flush_rows v 0)
 asks_of (read_of n) = names_it n readable false (λ v. 0)
@@ -85,7 +84,7 @@ asks_of batch_end = batches (λ d. eqb d 0) (λ v. flush_rows v 1)
 -- ---- the rows of the table
 -- 2: unknown command code or wrong word count
 unfoldable pub unknown : Option Command → Bool
-unknown c = elim c [ none ↦ true | some a ↦ false ]
+unknown c = elim c [ None ↦ true | Some a ↦ false ]
 
 -- n is the number of a node of such a kind
 unfoldable pub is_a : Sight → (Kind → Bool) → ℤ → Bool
@@ -123,7 +122,7 @@ bad_formula v c = on (asks_of c).cells (λ cs. not (legal_cells v cs))
 
 -- the new node's formula
 abbrev pub tree_in : Option (List ℤ) → Tree
-tree_in o = elim o [ none ↦ constant (pos 0) | some cs ↦ formula_of cs ]
+tree_in o = elim o [ None ↦ constant (pos 0) | Some cs ↦ formula_of cs ]
 
 -- 6: computed of height over 64, or owner depth over 16
 unfoldable pub too_high : Sight → Command → Bool

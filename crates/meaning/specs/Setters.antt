@@ -1,6 +1,5 @@
 -- The state with one column changed, and with one place of a column changed. Written by tools/setters-meaning.py.
-use Rattle.std.specs.Prelude.{Bool, List, ℕ}
-use Rattle.std.proofs.Math.Option.{Option}
+use Rattle.std.specs.Prelude.{Bool, List, ℕ, Option}
 use Rattle.flags.specs.declared.Named.{Named}
 use Rattle.values.specs.declared.Value.{Value}
 use Rattle.trees.specs.Trees.{Tree}

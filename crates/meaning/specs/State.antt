@@ -1,7 +1,6 @@
 -- Document 01, "The engine and its edges": what is said of each node and of each link slot.
 -- A column is a function of the number, and `up` changes it at one place.
-use Rattle.std.specs.Prelude.{Bool, true, false, not, ◌&&◌, ◌||◌, List, [], ◌∷◌, ◌++◌, ℕ, zero, suc, ◌+◌, ◌%◌, ◌^◌, eqb, leb, pos}
-use Rattle.std.proofs.Math.Option.{Option, none, some}
+use Rattle.std.specs.Prelude.{Bool, true, false, not, ◌&&◌, ◌||◌, List, [], ◌∷◌, ◌++◌, ℕ, zero, suc, ◌+◌, ◌%◌, ◌^◌, eqb, leb, pos, Option, None, Some}
 use Rattle.flags.specs.declared.Named.{Named}
 use Rattle.values.specs.declared.Value.{Value}
 use Rattle.values.specs.Values.{value}
@@ -83,8 +82,8 @@ pub record St : Type 0 where
 
 -- p of what there is
 abbrev pub on : {A : Type 0} → Option A → (A → Bool) → Bool
-on none p = false
-on (some a) p = p a
+on None p = false
+on (Some a) p = p a
 
 -- a column with one place changed
 unfoldable pub up {ℓ} : {A : Type ℓ} → (ℕ → A) → ℕ → A → ℕ → A
@@ -108,4 +107,4 @@ nothing = value (pos 0)
 
 -- no nodes, all slots free, the lowest first, depth and cycle 0
 unfoldable pub empty : Room → St
-empty r = record { room = r; size = 0; used = 0; kind = λ n. scope; form = λ n. constant (pos 0); owner = λ n. none; gone = λ n. false; level = λ n. 0; fl = λ n. f0; sto = λ n. nothing; pend = λ n. nothing; done = λ n. []; rest = λ n. []; subs = λ n. []; live = λ l. false; dep = λ l. 0; sub = λ l. 0; ver = λ l. 0; free = below r.slots []; queue = []; depth = 0; cycle = 0; log = []; stuck = false }
+empty r = record { room = r; size = 0; used = 0; kind = λ n. scope; form = λ n. constant (pos 0); owner = λ n. None; gone = λ n. false; level = λ n. 0; fl = λ n. f0; sto = λ n. nothing; pend = λ n. nothing; done = λ n. []; rest = λ n. []; subs = λ n. []; live = λ l. false; dep = λ l. 0; sub = λ l. 0; ver = λ l. 0; free = below r.slots []; queue = []; depth = 0; cycle = 0; log = []; stuck = false }

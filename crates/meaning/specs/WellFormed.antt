@@ -1,7 +1,6 @@
 -- Document 01, "Flags and tables at rest": its five bullets, a named clause a line.
 -- Each bullet speaks of the columns that it names, so that a change of any other column leaves it as it is.
-use Rattle.std.specs.Prelude.{◌≡◌, ◌⊎◌, Bool, true, false, List, [], ◌∷◌, ℕ, ◌≤◌, ◌<◌, length}
-use Rattle.std.proofs.Math.Option.{Option, none, some}
+use Rattle.std.specs.Prelude.{◌≡◌, ◌⊎◌, Bool, true, false, List, [], ◌∷◌, ℕ, ◌≤◌, ◌<◌, length, Option, None, Some}
 use Rattle.flags.specs.declared.Named.{Named}
 use Rattle.trees.specs.Trees.{Tree, size, nesting, names}
 use Rattle.trees.specs.Legal.{most_cells, most_nesting}
@@ -46,11 +45,11 @@ pub record Depends (count : ℕ) (kind : ℕ → Kind) (owner : ℕ → Option �
   pub of_computed : (l : ℕ) → live l ≡ true → kind (sub l) ≡ computed → readable (kind (dep l)) ≡ true
   pub of_scope : (l : ℕ) → live l ≡ true → kind (sub l) ≡ scope → readable (kind (dep l)) ≡ false
   pub read_lower : (l : ℕ) → live l ≡ true → readable (kind (dep l)) ≡ true → rank (dep l) < rank (sub l)
-  pub owned_by_it : (l : ℕ) → live l ≡ true → readable (kind (dep l)) ≡ false → owner (dep l) ≡ some (sub l)
-  pub one_owner : (n o : ℕ) → n < count → gone n ≡ false → owner n ≡ some o → (l : ℕ) × (subs n ≡ l ∷ []) × (sub l ≡ o)
-  pub owner_lower : (n o : ℕ) → n < count → owner n ≡ some o → o < n
-  pub unowned : (n : ℕ) → n < count → readable (kind n) ≡ false → owner n ≡ none → subs n ≡ []
-  pub owner_kind : (n : ℕ) → n < count → readable (kind n) ≡ true → owner n ≡ none
+  pub owned_by_it : (l : ℕ) → live l ≡ true → readable (kind (dep l)) ≡ false → owner (dep l) ≡ Some (sub l)
+  pub one_owner : (n o : ℕ) → n < count → gone n ≡ false → owner n ≡ Some o → (l : ℕ) × (subs n ≡ l ∷ []) × (sub l ≡ o)
+  pub owner_lower : (n o : ℕ) → n < count → owner n ≡ Some o → o < n
+  pub unowned : (n : ℕ) → n < count → readable (kind n) ≡ false → owner n ≡ None → subs n ≡ []
+  pub owner_kind : (n : ℕ) → n < count → readable (kind n) ≡ true → owner n ≡ None
   pub gone_bare : (n : ℕ) → n < count → gone n ≡ true → (links n ≡ []) × (subs n ≡ [])
   pub gone_kind : (n : ℕ) → n < count → readable (kind n) ≡ true → gone n ≡ false
 

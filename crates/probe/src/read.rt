@@ -1,5 +1,4 @@
 // Words of a block, read from standard input: numbers with white space between.
-use spelling::numbers::{Digits, Spelled};
 use std::io::Read;
 use stream::{Got, Window, least, next};
 use text::numbers::number;
@@ -101,43 +100,43 @@ fn piece<R: Read>(
 }
 
 // v with one more digit behind it.
-fn appended(v: u64, b: u8) -> Digits {
+fn appended(v: u64, b: u8) -> Option<u64> {
     if b < 48 {
-        return Digits::None;
+        return None;
     }
     if b > 57 {
-        return Digits::None;
+        return None;
     }
     if v > 1844674407370955161 {
-        return Digits::None;
+        return None;
     }
     let ten = v * 10;
     let d = (b - 48) as u64;
     if u64::MAX - ten < d {
-        return Digits::None;
+        return None;
     }
-    Digits::Worth(ten + d)
+    Some(ten + d)
 }
 
 // What digits are worth, up to 2^64 - 1.
-fn worth(text: &[u8]) -> Digits {
+fn worth(text: &[u8]) -> Option<u64> {
     if text.len() == 0 {
-        return Digits::None;
+        return None;
     }
     let mut v: u64 = 0;
     let mut i = 0;
     while i < text.len() {
-        let Digits::Worth(w) = appended(v, text[i]) else {
-            return Digits::None;
+        let Some(w) = appended(v, text[i]) else {
+            return None;
         };
         v = w;
         i += 1;
     }
-    Digits::Worth(v)
+    Some(v)
 }
 
-fn as_natural(digits: Digits, long: usize, window: Window, good: bool) -> Word {
-    let Digits::Worth(n) = digits else {
+fn as_natural(digits: Option<u64>, long: usize, window: Window, good: bool) -> Word {
+    let Some(n) = digits else {
         return Word {
             word: 0,
             ended: long == 0,
@@ -178,8 +177,8 @@ fn natural<R: Read>(rt: &impl Eprint, from: &mut R, buf: &mut [u8], input: Input
     natural_by(rt, from, &mut text, buf, input)
 }
 
-fn as_integer(spelled: Spelled, window: Window, good: bool) -> SignedWord {
-    let Spelled::Is(z) = spelled else {
+fn as_integer(spelled: Option<i64>, window: Window, good: bool) -> SignedWord {
+    let Some(z) = spelled else {
         return SignedWord {
             word: 0,
             input: Input {

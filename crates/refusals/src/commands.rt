@@ -6,7 +6,6 @@ ghost use Rattle.refusing.specs.Commands.{number_of, takes_words, command_by, br
 use formula::cells::natural;
 use primitive::words;
 use refusing::commands::Command;
-use trees::cells::Number;
 
 // Whether so many words are as many as the command of this code takes.
 fn takes_words(code: u64, n: usize) -> bool
@@ -31,7 +30,7 @@ fn takes_words(code: u64, n: usize) -> bool
 pub fn number_of(words: &[i64]) -> u64
     ensures { result ≡ number_of (brief (command_of words.now)) }
 {
-    let Number::Is(code) = natural(words::signed_at(words, 0)) else {
+    let Some(code) = natural(words::signed_at(words, 0)) else {
         return 0;
     };
     if takes_words(code, words.len()) {

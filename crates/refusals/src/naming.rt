@@ -12,7 +12,6 @@ use formula::cells::natural;
 use primitive::rows::{COMPUTED, COUNT, GONE, KIND, NODE, SIGNAL};
 use primitive::words;
 use refusing::asks::Takes;
-use trees::cells::Number;
 
 // 2: unknown command code or wrong word count.
 pub fn unknown(words: &[i64]) -> bool
@@ -45,7 +44,7 @@ fn readable_kind(kind: u64) -> bool
 fn is_a(nodes: &[u64], t: Takes, n: i64) -> bool
     ensures { result ≡ is_a (nodes_alone nodes.now) (taken t) n }
 {
-    let Number::Is(k) = natural(n) else {
+    let Some(k) = natural(n) else {
         return false;
     };
     if k >= words::at(nodes, COUNT) {
@@ -88,7 +87,7 @@ pub fn wrong_node(nodes: &[u64], words: &[i64]) -> bool
 fn is_gone(nodes: &[u64], n: i64) -> bool
     ensures { result ≡ is_gone (nodes_alone nodes.now) n }
 {
-    let Number::Is(k) = natural(n) else {
+    let Some(k) = natural(n) else {
         return false;
     };
     words::get(nodes, NODE, k, GONE) != 0

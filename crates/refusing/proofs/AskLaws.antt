@@ -1,8 +1,8 @@
 -- What the code's record says is what `meaning` asks; each row of the table by that record. Assumes nothing.
+use Rattle.std.specs.Prelude.{Option, None, Some}
 use mathlib.Core.Path.{◌≡◌, refl, sym, ap, ap₂, ◌∙◌}
 use mathlib.Core.Bool.{Bool, true, false, cond, ◌&&◌, ◌||◌}
 use mathlib.Core.List.{List}
-use mathlib.Core.Option.{Option, none, some}
 use Prim.Native.Nat.{ℕ}
 use lib.Dec.{eqb}
 use lib.IntN.{ℤ, pos}
@@ -62,28 +62,28 @@ asks_nothing k a h₁ h₂ h₃ h₄ h₅ h₆ h₇ h₈ =
 module _ (v : Sight) where
   wrong_on : (c : Option Meant) → on c (wrong_node v) ≡ (wrong_named v (asks_about c).takes (asks_about c).node || wrong_owner v (asks_about c).owner)
   unfolding wrong_node
-  wrong_on none = refl
-  wrong_on (some c) = refl
+  wrong_on None = refl
+  wrong_on (Some c) = refl
 
   gone_on : (c : Option Meant) → on c (gone_node v) ≡ (((asks_about c).ends && on (asks_about c).node (is_gone v)) || is_gone v (asks_about c).owner)
   unfolding gone_node
-  gone_on none = refl
-  gone_on (some c) = refl
+  gone_on None = refl
+  gone_on (Some c) = refl
 
   bad_on : (c : Option Meant) → on c (bad_formula v) ≡ illegal v (asks_about c).cells
   unfolding bad_formula
-  bad_on none = refl
-  bad_on (some c) = refl
+  bad_on None = refl
+  bad_on (Some c) = refl
 
   high_on : (c : Option Meant) → on c (too_high v) ≡ over v (asks_about c).makes (tree_in (asks_about c).cells) (owner_of (asks_about c).owner)
   unfolding too_high
-  high_on none = refl
-  high_on (some c) = refl
+  high_on None = refl
+  high_on (Some c) = refl
 
   room_on : (c : Option Meant) → on c (no_room v) ≡ full v (asks_about c).makes (tree_in (asks_about c).cells) (owner_of (asks_about c).owner)
   unfolding no_room
-  room_on none = refl
-  room_on (some c) = refl
+  room_on None = refl
+  room_on (Some c) = refl
 
   -- a command that disposes names its node
   ends_named : (b : Command) → ((asked b).ends && on (node_asked (asked b).names (asked b).node) (is_gone v)) ≡ ((asked b).ends && is_gone v (asked b).node)

@@ -1,16 +1,14 @@
 -- The words of a command, by what the code finds on its way; and the command in full from the code's enum and the words. Assumes nothing.
+use Rattle.std.specs.Prelude.{Option, Some, None}
 use mathlib.Core.Path.{◌≡◌, refl, sym, ap, ◌∙◌, subst}
 use mathlib.Core.Bool.{Bool, true, false, cond}
 use mathlib.Core.List.{List, [], ◌∷◌}
-use mathlib.Core.Option.{Option, none, some}
 use Prim.Native.Nat.{ℕ, suc, ◌%◌, ◌≤◌}
 use native.Mathlib.Omega.{arith}
 use lib.Dec.{eqb}
 use lib.IntN.{ℤ, pos, negsuc}
 use lib.ListN.{length, get_or}
 use borrow.Author.Tests.{eqb-true, eqb-false, eq-eqb, ne_eqb}
-use Rattle.trees.specs.declared.cells.Number.{Number}
-use Rattle.trees.specs.declared.cells.Number.TheVariants.{Is, None}
 use Rattle.trees.specs.Cells.{natural_of}
 use Rattle.trees.proofs.CellLaws.{natural_pos, natural_neg}
 use Rattle.meaning.specs.Words.{Command as Meant, make_signal, make_computed, make_effect, make_scope, set_to, add_to, read_of, dispose_of, batch_start, batch_end, word, no_word, whole_cells, codes, command_of}
@@ -46,19 +44,19 @@ abbrev word_and_cells : (ℤ → List ℤ → Meant) → List ℤ → Option Mea
 word_and_cells f rest = word (λ x. whole_cells (f x)) rest
 
 -- ---- the number of a command
-no_word_brief : (f : Meant) (k : ℕ) → number_of (brief (some f)) ≡ k → (rest : List ℤ) → only_if (eqb (suc (length rest)) 1) k ≡ number_of (brief (no_word f rest))
+no_word_brief : (f : Meant) (k : ℕ) → number_of (brief (Some f)) ≡ k → (rest : List ℤ) → only_if (eqb (suc (length rest)) 1) k ≡ number_of (brief (no_word f rest))
 unfolding number_of brief no_word
 no_word_brief f k h [] = sym h
 no_word_brief f k h (x ∷ zs) = let d : suc (suc (length zs)) ≡ 1 → ⊥ = λ e. omega arith in rw (ne_eqb (suc (suc (length zs))) 1 d)
 
-one_word_lem : (f : ℤ → Meant) (k : ℕ) → ((x : ℤ) → number_of (brief (some (f x))) ≡ k) → (rest : List ℤ)
+one_word_lem : (f : ℤ → Meant) (k : ℕ) → ((x : ℤ) → number_of (brief (Some (f x))) ≡ k) → (rest : List ℤ)
     → only_if (eqb (suc (length rest)) 2) k ≡ number_of (brief (one_word f rest))
 unfolding number_of brief word no_word
 one_word_lem f k h [] = refl
 one_word_lem f k h (x ∷ []) = sym (h x)
 one_word_lem f k h (x ∷ y ∷ zs) = let d : suc (suc (suc (length zs))) ≡ 2 → ⊥ = λ e. omega arith in rw (ne_eqb (suc (suc (suc (length zs)))) 2 d)
 
-two_words_lem : (f : ℤ → ℤ → Meant) (k : ℕ) → ((x y : ℤ) → number_of (brief (some (f x y))) ≡ k) → (rest : List ℤ)
+two_words_lem : (f : ℤ → ℤ → Meant) (k : ℕ) → ((x y : ℤ) → number_of (brief (Some (f x y))) ≡ k) → (rest : List ℤ)
     → only_if (eqb (suc (length rest)) 3) k ≡ number_of (brief (two_words f rest))
 unfolding number_of brief word no_word
 two_words_lem f k h [] = refl
@@ -72,7 +70,7 @@ unfolding number_of brief whole_cells
 whole rest = go (eqb (length rest % 2) 0) refl
   where
     go : (b : Bool) → eqb (length rest % 2) 0 ≡ b
-        → only_if (eqb (suc (length rest) % 2) 1) 2 ≡ number_of (brief (elim b [ true ↦ some (make_computed rest) | false ↦ none ]))
+        → only_if (eqb (suc (length rest) % 2) 1) 2 ≡ number_of (brief (elim b [ true ↦ Some (make_computed rest) | false ↦ None ]))
     go true e = let q = eqb-true (length rest % 2) 0 e in rw (eq-eqb (suc (length rest) % 2) 1 (omega arith))
     go false e = let q = eqb-false (length rest % 2) 0 e in rw (ne_eqb (suc (length rest) % 2) 1 (λ p. q (omega arith)))
 
@@ -82,7 +80,7 @@ word_and_whole [] = refl
 word_and_whole (x ∷ rest) = go (eqb (length rest % 2) 0) refl
   where
     go : (b : Bool) → eqb (length rest % 2) 0 ≡ b
-        → only_if (eqb (suc (suc (length rest)) % 2) 0) 3 ≡ number_of (brief (elim b [ true ↦ some (make_effect x rest) | false ↦ none ]))
+        → only_if (eqb (suc (suc (length rest)) % 2) 0) 3 ≡ number_of (brief (elim b [ true ↦ Some (make_effect x rest) | false ↦ None ]))
     go true e = let q = eqb-true (length rest % 2) 0 e in rw (eq-eqb (suc (suc (length rest)) % 2) 0 (omega arith))
     go false e = let q = eqb-false (length rest % 2) 0 e in rw (ne_eqb (suc (suc (length rest)) % 2) 0 (λ p. q (omega arith)))
 
@@ -109,7 +107,7 @@ number_codes c rest =
     (number_row c 9 _ _ _ _ (no_word_brief batch_start 9 refl rest)
     (number_row c 10 _ _ _ _ (no_word_brief batch_end 10 refl rest) refl)))))))))
 
-module _ (ws : List ℤ) {r : Number} (found : r ≡ natural_of (get_or ws 0 (pos 0))) where
+module _ (ws : List ℤ) {r : Option ℕ} (found : r ≡ natural_of (get_or ws 0 (pos 0))) where
   pub code_none : r ≡ None → 0 ≡ number_of (brief (command_of ws))
   unfolding number_of brief command_of
   code_none e = go ws found
@@ -118,7 +116,7 @@ module _ (ws : List ℤ) {r : Number} (found : r ≡ natural_of (get_or ws 0 (po
       go [] f = refl
       go (w ∷ rest) f = natural_neg w f (λ (z : ℤ). 0 ≡ number_of (brief (command_of (z ∷ rest)))) e (λ n. refl)
 
-  module _ (c : ℕ) (is : r ≡ Is c) {b : Bool} (right : b ≡ takes_words c (length ws)) where
+  module _ (c : ℕ) (is : r ≡ Some c) {b : Bool} (right : b ≡ takes_words c (length ws)) where
     by_code : only_if b c ≡ number_of (brief (command_of ws))
     unfolding command_of number_of brief
     by_code = go ws right (natural_pos (get_or ws 0 (pos 0)) found c is)
@@ -145,31 +143,31 @@ record Kept (ws : List ℤ) (x : Option Meant) : Type 0 where
   inside : from_or (asked (brief x)).from (length ws) ≤ length ws
 
 module _ (w : ℤ) where
-  kept_none : (ws : List ℤ) → Kept ws none
+  kept_none : (ws : List ℤ) → Kept ws None
   unfolding brief told asked number_of command_by
   kept_none ws = record { same = refl; numbered = refl; inside = omega arith }
 
-  kept_no : (f : Meant) (ws : List ℤ) → Kept ws (some f) → (rest : List ℤ) → Kept ws (no_word f rest)
+  kept_no : (f : Meant) (ws : List ℤ) → Kept ws (Some f) → (rest : List ℤ) → Kept ws (no_word f rest)
   unfolding no_word
   kept_no f ws h [] = h
   kept_no f ws h (x ∷ zs) = kept_none ws
 
-  kept_one : (f : ℤ → Meant) → ((x : ℤ) (zs : List ℤ) → Kept (w ∷ x ∷ zs) (some (f x))) → (rest : List ℤ) → Kept (w ∷ rest) (one_word f rest)
+  kept_one : (f : ℤ → Meant) → ((x : ℤ) (zs : List ℤ) → Kept (w ∷ x ∷ zs) (Some (f x))) → (rest : List ℤ) → Kept (w ∷ rest) (one_word f rest)
   unfolding word
   kept_one f h [] = kept_none (w ∷ [])
   kept_one f h (x ∷ zs) = kept_no (f x) (w ∷ x ∷ zs) (h x zs) zs
 
-  kept_two : (f : ℤ → ℤ → Meant) → ((x y : ℤ) (zs : List ℤ) → Kept (w ∷ x ∷ y ∷ zs) (some (f x y))) → (rest : List ℤ) → Kept (w ∷ rest) (two_words f rest)
+  kept_two : (f : ℤ → ℤ → Meant) → ((x y : ℤ) (zs : List ℤ) → Kept (w ∷ x ∷ y ∷ zs) (Some (f x y))) → (rest : List ℤ) → Kept (w ∷ rest) (two_words f rest)
   unfolding word
   kept_two f h [] = kept_none (w ∷ [])
   kept_two f h (x ∷ []) = kept_none (w ∷ x ∷ [])
   kept_two f h (x ∷ y ∷ zs) = kept_no (f x y) (w ∷ x ∷ y ∷ zs) (h x y zs) zs
 
-  kept_whole : (f : List ℤ → Meant) (ws rest : List ℤ) → Kept ws (some (f rest)) → Kept ws (whole_cells f rest)
+  kept_whole : (f : List ℤ → Meant) (ws rest : List ℤ) → Kept ws (Some (f rest)) → Kept ws (whole_cells f rest)
   unfolding whole_cells
   kept_whole f ws rest h = go (eqb (length rest % 2) 0)
     where
-      go : (b : Bool) → Kept ws (elim b [ true ↦ some (f rest) | false ↦ none ])
+      go : (b : Bool) → Kept ws (elim b [ true ↦ Some (f rest) | false ↦ None ])
       go true = h
       go false = kept_none ws
 

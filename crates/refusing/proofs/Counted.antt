@@ -1,8 +1,8 @@
 -- The capacities and counts are those of `meaning`: where the words of a node tell its kind, formula and owner, it counts as much, and so do sums over nodes. Assumes nothing.
+use Rattle.std.specs.Prelude.{Option, None, Some}
 use mathlib.Core.Path.{◌≡◌, refl, sym, ap, ap₂, ◌∙◌}
 use mathlib.Core.Bool.{Bool, true, false, not, ◌&&◌}
 use mathlib.Core.List.{List}
-use mathlib.Core.Option.{Option, none, some}
 use Prim.Native.Nat.{ℕ, zero, suc, ◌+◌, ◌*◌, ◌<◌, ◌≤◌}
 use native.Mathlib.Omega.{arith}
 use lib.Dec.{eqb}
@@ -35,12 +35,12 @@ room_same nodes links cells =
 -- ---- counts
 -- an owner word: 0 if there is none, else the owner's number and 1
 abbrev pub owner_word : Option ℕ → ℕ
-owner_word none = 0
-owner_word (some o) = suc o
+owner_word None = 0
+owner_word (Some o) = suc o
 
 owned_same : (w : ℕ) (o : Option ℕ) → w ≡ owner_word o → owned_link w ≡ ownedLinkOf o
-owned_same w none e = ap owned_link e
-owned_same w (some o) e = ap owned_link e
+owned_same w None e = ap owned_link e
+owned_same w (Some o) e = ap owned_link e
 
 -- a computed or an effect says how many read cells its formula has
 abbrev pub TellsReads : Kind → ℕ → Tree → Type 0

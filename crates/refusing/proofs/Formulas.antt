@@ -1,9 +1,8 @@
 -- A formula in the cells is the tree that `meaning` finds in them: legal alike, of the same size, names and height. Assumes nothing.
+use Rattle.std.specs.Prelude.{Option, None, Some, unwrap_or}
 use mathlib.Core.Path.{◌≡◌, refl, sym, ap, ap₂, ◌∙◌, subst}
 use mathlib.Core.Bool.{Bool, true, false, ◌&&◌}
 use mathlib.Core.List.{List, [], ◌∷◌}
-use mathlib.Core.Option
-use mathlib.Core.Option.{Option, none, some}
 use Prim.Native.Nat.{ℕ, suc, ◌*◌, ◌/◌, max}
 use native.Mathlib.Omega.{arith}
 use lib.Dec.{T, eqb, ltb}
@@ -81,26 +80,26 @@ module _ (nodes : List ℕ) where
       there e =
           let l = legal_sound nodes cs e in
           let f = l.1 in
-          let t : tree_of cs ≡ some l.0 = (tree_exact cs l.0).1 (record { spelt = f.spelt; few = f.few; shallow = f.shallow }) in
+          let t : tree_of cs ≡ Some l.0 = (tree_exact cs l.0).1 (record { spelt = f.spelt; few = f.few; shallow = f.shallow }) in
           ap legal_tree t ∙ known_all (names l.0) f.known
 
       back : (o : Option Tree) → tree_of cs ≡ o → legal_tree o ≡ true → legal_in nodes cs ≡ true
-      back none e h = f≢t h
-      back (some t) e h =
+      back None e h = f≢t h
+      back (Some t) e h =
           let w = (tree_exact cs t).0 e in
           legal_complete nodes cs (t, record { spelt = w.spelt; few = w.few; shallow = w.shallow; known = all_known (names t) h })
 
   -- ---- the tree of a legal formula
-  module _ (cs : List ℤ) (legal : illegal (nodes_alone nodes) (some cs) ≡ false) where
-    found : (t : Tree) × (tree_of cs ≡ some t)
+  module _ (cs : List ℤ) (legal : illegal (nodes_alone nodes) (Some cs) ≡ false) where
+    found : (t : Tree) × (tree_of cs ≡ Some t)
     found = go (tree_of cs) refl (not-false (legal_cells (nodes_alone nodes) cs) legal)
       where
-        go : (o : Option Tree) → tree_of cs ≡ o → legal_tree o ≡ true → (t : Tree) × (tree_of cs ≡ some t)
-        go none e h = f≢t h
-        go (some t) e h = (t, e)
+        go : (o : Option Tree) → tree_of cs ≡ o → legal_tree o ≡ true → (t : Tree) × (tree_of cs ≡ Some t)
+        go None e h = f≢t h
+        go (Some t) e h = (t, e)
 
     spelt : cs ≡ written (formula_of cs)
-    spelt = ((tree_exact cs found.0).0 found.1).spelt ∙ ap (λ (o : Option Tree). written (Option.get_or o (constant (pos 0)))) (sym found.1)
+    spelt = ((tree_exact cs found.0).0 found.1).spelt ∙ ap (λ (o : Option Tree). written (unwrap_or o (constant (pos 0)))) (sym found.1)
 
     pub tree_names : names (formula_of cs) ≡ all_named cs
     tree_names = sym (all_named-written (formula_of cs)) ∙ ap all_named (sym spelt)

@@ -1,8 +1,8 @@
 -- Rows 5 to 7, by what the code finds on its way. Assumes nothing.
+use Rattle.std.specs.Prelude.{Option, Some, None}
 use mathlib.Core.Path.{◌≡◌, refl, sym, ap, ap₂, ◌∙◌}
 use mathlib.Core.Bool.{Bool, true, false, not, ◌||◌}
 use mathlib.Core.List.{List, []}
-use mathlib.Core.Option.{Option, none, some}
 use Prim.Native.Nat.{ℕ, zero, suc, ◌+◌, ◌*◌, ◌-◌, ◌/◌, ◌<◌, ◌≤◌, min}
 use native.Mathlib.Decide.{dec_lt}
 use native.Mathlib.Omega.{arith}
@@ -12,8 +12,6 @@ use lib.ListN.{length, get_or, take, drop, length-drop, drop_of_length-le}
 use lib.Seq.{take_all}
 use borrow.Author.Tests.{lt-ltb, le-ltb, lt-leb, le-leb}
 use Rattle.primitive.specs.Words.{COUNT, USED, LEVEL, node}
-use Rattle.trees.specs.declared.cells.Number.{Number}
-use Rattle.trees.specs.declared.cells.Number.TheVariants.{Is, None}
 use Rattle.trees.specs.Trees.{Tree, constant, size}
 use Rattle.trees.specs.Cells.{natural_of}
 use Rattle.trees.specs.Legal.{legal_in}
@@ -93,11 +91,11 @@ module _ (nodes : List ℕ) where
   abbrev height : ℕ → ℕ
   height n = node nodes n LEVEL
 
-  module _ (z : ℤ) {r : Number} (found : r ≡ natural_of z) where
+  module _ (z : ℤ) {r : Option ℕ} (found : r ≡ natural_of z) where
     pub deep_none : r ≡ None → false ≡ ltb most_owner_depth (depth_under height (owner_of z))
     deep_none e = natural_neg z found (λ (x : ℤ). false ≡ ltb most_owner_depth (depth_under height (owner_of x))) e (λ n. refl)
 
-    pub deep_some : (o : ℕ) {w : ℕ} → r ≡ Is o → w ≡ node nodes o LEVEL → leb most_owner_depth w ≡ ltb most_owner_depth (depth_under height (owner_of z))
+    pub deep_some : (o : ℕ) {w : ℕ} → r ≡ Some o → w ≡ node nodes o LEVEL → leb most_owner_depth w ≡ ltb most_owner_depth (depth_under height (owner_of z))
     deep_some o {w} e g = deeper w ∙ rw (natural_pos z found o e, ← g)
 
   module _ (ws : List ℤ) where
@@ -157,11 +155,11 @@ no_reads : read_cells [] ≡ 0
 unfolding read_cells all_named named
 no_reads = refl
 
-module _ (z : ℤ) {r : Number} (found : r ≡ natural_of z) (cs : List ℤ) where
+module _ (z : ℤ) {r : Option ℕ} (found : r ≡ natural_of z) (cs : List ℤ) where
   pub slots_none : {n s : ℕ} → r ≡ None → n ≡ read_cells cs → s ≡ min top (n + n) → s ≡ min top (2 * read_cells cs + owned_link (owner_of z))
   slots_none {n} {s} e f g = natural_neg z found (λ (x : ℤ). s ≡ min top (2 * read_cells cs + owned_link (owner_of x))) e (λ k. omega arith)
 
-  pub slots_some : (k : ℕ) {n s t : ℕ} → r ≡ Is k → n ≡ read_cells cs → s ≡ min top (n + n) → t ≡ min top (s + 1) → t ≡ min top (2 * read_cells cs + owned_link (owner_of z))
+  pub slots_some : (k : ℕ) {n s t : ℕ} → r ≡ Some k → n ≡ read_cells cs → s ≡ min top (n + n) → t ≡ min top (s + 1) → t ≡ min top (2 * read_cells cs + owned_link (owner_of z))
   slots_some k e f g h = rw (natural_pos z found k e) (omega arith)
 
 module _ (nodes links : List ℕ) (cells ws : List ℤ) where
@@ -178,7 +176,7 @@ module _ (nodes links : List ℕ) (cells ws : List ℤ) where
   abbrev Lacks : ℕ → ℕ → Bool
   Lacks n m = leb (node_room nodes) (get_or nodes COUNT 0) || (ltb (cell_room cells) (get_or nodes USED 0 + n) || ltb (slot_room links) (reserve_in nodes + m))
 
-  lacks : (k : Kind) (t : Tree) (o : Option ℕ) {n m : ℕ} → n ≡ cells_of k t → m ≡ reserve_of k false t o → Lacks n m ≡ full v (some k) t o
+  lacks : (k : Kind) (t : Tree) (o : Option ℕ) {n m : ℕ} → n ≡ cells_of k t → m ≡ reserve_of k false t o → Lacks n m ≡ full v (Some k) t o
   lacks k t o e f = ap₂ Lacks e f
 
   abbrev cells_in : Command → List ℤ
@@ -192,8 +190,8 @@ module _ (nodes links : List ℕ) (cells ws : List ℤ) where
 
   -- a computed or an effect takes what its tree does
   with_cells : (k : Kind) (from : ℕ) (o : Option ℕ) → cells_of k (formula_of (drop from ws)) ≡ size (formula_of (drop from ws))
-      → reserve_of k false (formula_of (drop from ws)) o ≡ reserve_for (formula_of (drop from ws)) o → illegal (nodes_alone nodes) (some (drop from ws)) ≡ false
-      → Lacks (length (drop from ws) / 2) (2 * read_cells (drop from ws) + owned_link o) ≡ full v (some k) (formula_of (drop from ws)) o
+      → reserve_of k false (formula_of (drop from ws)) o ≡ reserve_for (formula_of (drop from ws)) o → illegal (nodes_alone nodes) (Some (drop from ws)) ≡ false
+      → Lacks (length (drop from ws) / 2) (2 * read_cells (drop from ws) + owned_link o) ≡ full v (Some k) (formula_of (drop from ws)) o
   with_cells k from o n r l =
       lacks k (formula_of (drop from ws)) o (sym (n ∙ tree_size nodes (drop from ws) l))
       (sym (r ∙ ap (λ (x : ℕ). 2 * x + owned_link o) (tree_reads nodes (drop from ws) l)))
@@ -205,8 +203,8 @@ module _ (nodes links : List ℕ) (cells ws : List ℤ) where
       each
       (λ (b : Command). ((asked b).makes ≡ 0 → ⊥) → illegal (nodes_alone nodes) (cells_asked (asked b).from ws) ≡ false
       → Lacks (length (cells_in b) / 2) (2 * read_cells (cells_in b) + owned_link (owner_of (asked b).owner)) ≡ Full b)
-      (λ k h l. lacks signal (constant (pos 0)) none (none_left (all_dropped ws)) (none_read none (all_dropped ws)))
-      (λ h l. with_cells computed 1 none refl refl l)
+      (λ k h l. lacks signal (constant (pos 0)) None (none_left (all_dropped ws)) (none_read None (all_dropped ws)))
+      (λ h l. with_cells computed 1 None refl refl l)
       (λ o h l. with_cells effect 2 (owner_of o) refl refl l)
       (λ o h l. lacks scope (constant (pos 0)) (owner_of o) (none_left (all_dropped ws)) (none_read (owner_of o) (all_dropped ws)))
       (λ n k h. absurd (h refl)) (λ n k h. absurd (h refl)) (λ n h. absurd (h refl)) (λ n h. absurd (h refl)) (λ h. absurd (h refl)) (λ h. absurd (h refl)) (λ h. absurd (h refl))

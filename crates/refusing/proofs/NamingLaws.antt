@@ -1,4 +1,5 @@
 -- Rows 2 to 4, by what the code finds on its way. Assumes nothing.
+use Rattle.std.specs.Prelude.{Option, Some, None}
 use mathlib.Core.Path.{◌≡◌, refl, sym, ap, ◌∙◌}
 use mathlib.Core.Bool.{Bool, true, false, not, ◌||◌}
 use mathlib.Core.List.{List}
@@ -12,8 +13,6 @@ use mir.Syntax.{w64}
 use mir.Val.{SFits, of_z}
 use Rattle.primitive.specs.Rows.{field}
 use Rattle.primitive.specs.Words.{SIGNAL, COMPUTED, EFFECT}
-use Rattle.trees.specs.declared.cells.Number.{Number}
-use Rattle.trees.specs.declared.cells.Number.TheVariants.{Is, None}
 use Rattle.trees.specs.Cells.{natural_of}
 use Rattle.trees.specs.Legal.{read_kind}
 use Rattle.trees.proofs.CellLaws.{natural_pos, natural_neg}
@@ -53,20 +52,20 @@ pub kind_second : (w : ℕ) → (w ≡ 1 → ⊥) → eqb w 2 ≡ readable (kind
 unfolding read_kind
 kind_second w e = sym (readable_kind w ∙ rw (ne_eqb w 1 e, read_kind))
 
-module _ (nodes : List ℕ) (z : ℤ) {r : Number} (found : r ≡ natural_of z) where
+module _ (nodes : List ℕ) (z : ℤ) {r : Option ℕ} (found : r ≡ natural_of z) where
   -- ---- 3
   module _ (p : Kind → Bool) where
     pub a_none : r ≡ None → false ≡ is_a (nodes_alone nodes) p z
     unfolding is_a
     a_none e = natural_neg z found (λ (x : ℤ). false ≡ is_a (nodes_alone nodes) p x) e (λ n. refl)
 
-    pub a_past : (k : ℕ) {n : ℕ} → r ≡ Is k → n ≡ get_or nodes 7 0 → n ≤ k → false ≡ is_a (nodes_alone nodes) p z
+    pub a_past : (k : ℕ) {n : ℕ} → r ≡ Some k → n ≡ get_or nodes 7 0 → n ≤ k → false ≡ is_a (nodes_alone nodes) p z
     unfolding is_a
     a_past k e f h =
         let l : get_or nodes 7 0 ≤ k = omega arith in
         rw (natural_pos z found k e) (rw (le-ltb k (get_or nodes 7 0) l, is_a))
 
-    pub a_kind : (k : ℕ) {n w : ℕ} {t : Bool} → r ≡ Is k → n ≡ get_or nodes 7 0 → k < n → w ≡ field 16 nodes k 1 → t ≡ p (kind_of w) → t ≡ is_a (nodes_alone nodes) p z
+    pub a_kind : (k : ℕ) {n w : ℕ} {t : Bool} → r ≡ Some k → n ≡ get_or nodes 7 0 → k < n → w ≡ field 16 nodes k 1 → t ≡ p (kind_of w) → t ≡ is_a (nodes_alone nodes) p z
     unfolding is_a
     a_kind k e f h g q =
         let l : k < get_or nodes 7 0 = omega arith in
@@ -76,7 +75,7 @@ module _ (nodes : List ℕ) (z : ℤ) {r : Number} (found : r ≡ natural_of z) 
   pub gone_none : r ≡ None → false ≡ is_gone (nodes_alone nodes) z
   gone_none e = natural_neg z found (λ (x : ℤ). false ≡ is_gone (nodes_alone nodes) x) e (λ n. refl)
 
-  pub gone_is : (k : ℕ) {w : ℕ} → r ≡ Is k → w ≡ field 16 nodes k 2 → not (eqb w 0) ≡ is_gone (nodes_alone nodes) z
+  pub gone_is : (k : ℕ) {w : ℕ} → r ≡ Some k → w ≡ field 16 nodes k 2 → not (eqb w 0) ≡ is_gone (nodes_alone nodes) z
   gone_is k e g = rw (natural_pos z found k e, ← g)
 
 -- the bits of -1

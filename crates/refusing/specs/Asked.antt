@@ -1,6 +1,5 @@
 -- What a command asks, as the code's record tells it, beside `asks_of` of `meaning`.
-use Rattle.std.specs.Prelude.{Bool, true, false, not, cond, List, ℕ, zero, suc, eqb, leb, ltb, ℤ, pos, negsuc, length, drop}
-use Rattle.std.proofs.Math.Option.{Option, none, some}
+use Rattle.std.specs.Prelude.{Bool, true, false, not, cond, List, ℕ, zero, suc, eqb, leb, ltb, ℤ, pos, negsuc, length, drop, Option, None, Some}
 use Rattle.primitive.specs.Words.{SIGNAL, COMPUTED, EFFECT, SCOPE}
 use Rattle.trees.specs.Trees.{Tree}
 use Rattle.meaning.specs.State.{Kind, readable}
@@ -43,21 +42,21 @@ asked Unknown = makes_one 0 (negsuc 0) 0
 
 -- ---- beside the record of `meaning`
 abbrev pub node_asked : Bool → ℤ → Option ℤ
-node_asked true n = some n
-node_asked false n = none
+node_asked true n = Some n
+node_asked false n = None
 
 abbrev pub kind_asked : ℕ → Option Kind
-kind_asked zero = none
-kind_asked (suc k) = some (kind_of (suc k))
+kind_asked zero = None
+kind_asked (suc k) = Some (kind_of (suc k))
 
 abbrev pub cells_asked : ℕ → List ℤ → Option (List ℤ)
-cells_asked zero ws = none
-cells_asked (suc n) ws = some (drop (suc n) ws)
+cells_asked zero ws = None
+cells_asked (suc n) ws = Some (drop (suc n) ws)
 
 -- an unknown command asks nothing
 abbrev pub asks_about : Option Meant → Meanings
-asks_about none = batches (λ d. false) (λ v. 0)
-asks_about (some c) = asks_of c
+asks_about None = batches (λ d. false) (λ v. 0)
+asks_about (Some c) = asks_of c
 
 -- depths and rows are told by the command itself
 abbrev pub seen : Asks → Option Meant → List ℤ → Meanings

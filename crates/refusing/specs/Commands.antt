@@ -1,6 +1,5 @@
 -- Document 01, "Commands": the code's enum beside the commands of `meaning`. The cells of a formula stay in the words.
-use Rattle.std.specs.Prelude.{Bool, true, false, cond, List, ℕ, ◌%◌, eqb, ℤ, drop}
-use Rattle.std.proofs.Math.Option.{Option, none, some}
+use Rattle.std.specs.Prelude.{Bool, true, false, cond, List, ℕ, ◌%◌, eqb, ℤ, drop, Option, None, Some}
 use Rattle.meaning.specs.Words.{Command as Meant, make_signal, make_computed, make_effect, make_scope, set_to, add_to, read_of, dispose_of, batch_start, batch_end}
 use Rattle.refusing.specs.declared.commands.Command.{Command}
 use Rattle.refusing.specs.declared.commands.Command.TheVariants.{Signal, Computed, Effect, Scope, Set, Add, Read, Dispose, Start, End, Unknown}
@@ -54,28 +53,28 @@ command_by k a b =
 
 -- a command without its cells
 unfoldable pub brief : Option Meant → Command
-brief none = Unknown
-brief (some (make_signal k)) = Signal k
-brief (some (make_computed cs)) = Computed
-brief (some (make_effect o cs)) = Effect o
-brief (some (make_scope o)) = Scope o
-brief (some (set_to n k)) = Set n k
-brief (some (add_to n k)) = Add n k
-brief (some (read_of n)) = Read n
-brief (some (dispose_of n)) = Dispose n
-brief (some batch_start) = Start
-brief (some batch_end) = End
+brief None = Unknown
+brief (Some (make_signal k)) = Signal k
+brief (Some (make_computed cs)) = Computed
+brief (Some (make_effect o cs)) = Effect o
+brief (Some (make_scope o)) = Scope o
+brief (Some (set_to n k)) = Set n k
+brief (Some (add_to n k)) = Add n k
+brief (Some (read_of n)) = Read n
+brief (Some (dispose_of n)) = Dispose n
+brief (Some batch_start) = Start
+brief (Some batch_end) = End
 
 -- and with them: those of a computed follow the code, those of an effect the owner
 unfoldable pub told : Command → List ℤ → Option Meant
-told (Signal k) ws = some (make_signal k)
-told Computed ws = some (make_computed (drop 1 ws))
-told (Effect o) ws = some (make_effect o (drop 2 ws))
-told (Scope o) ws = some (make_scope o)
-told (Set n k) ws = some (set_to n k)
-told (Add n k) ws = some (add_to n k)
-told (Read n) ws = some (read_of n)
-told (Dispose n) ws = some (dispose_of n)
-told Start ws = some batch_start
-told End ws = some batch_end
-told Unknown ws = none
+told (Signal k) ws = Some (make_signal k)
+told Computed ws = Some (make_computed (drop 1 ws))
+told (Effect o) ws = Some (make_effect o (drop 2 ws))
+told (Scope o) ws = Some (make_scope o)
+told (Set n k) ws = Some (set_to n k)
+told (Add n k) ws = Some (add_to n k)
+told (Read n) ws = Some (read_of n)
+told (Dispose n) ws = Some (dispose_of n)
+told Start ws = Some batch_start
+told End ws = Some batch_end
+told Unknown ws = None

@@ -1,6 +1,5 @@
 -- What the refusals see, read off the words of the lent tables: a record of `meaning`, so that its table of refusals is the code's.
-use Rattle.std.specs.Prelude.{Bool, true, false, not, List, [], ◌∷◌, ℕ, eqb, ℤ, get_or}
-use Rattle.std.proofs.Math.Option.{Option}
+use Rattle.std.specs.Prelude.{Bool, true, false, not, List, [], ◌∷◌, ℕ, eqb, ℤ, get_or, Option}
 use Rattle.primitive.specs.Words.{COUNT, USED, DEPTH, KIND, GONE, LEVEL, SIGNAL, COMPUTED, EFFECT, node}
 use Rattle.counting.specs.Counts.{node_room, slot_room, cell_room, reserve_in, live_effects_in}
 use Rattle.meaning.specs.State.{Kind, signal, computed, effect, scope, Room}

@@ -1,4 +1,5 @@
 -- The word test of the lists passes exactly those of which the first bullet holds. Assumes nothing.
+use Rattle.std.specs.Prelude.{Option, Some, None}
 use mathlib.Core.Path.{◌≡◌, refl, sym, ap, ◌∙◌, subst}
 use mathlib.Core.Bool.{Bool, true, false, not}
 use mathlib.Core.List.{List, [], ◌∷◌}
@@ -12,8 +13,6 @@ use Rattle.primitive.proofs.RowLaws.{has, field_is}
 use Rattle.lists.specs.Sum.{All, occ, count, sum}
 use Rattle.lists.specs.Walk.{Chain, slots, leaves, on_left}
 use Rattle.lists.specs.Each.{both}
-use Rattle.lists.specs.declared.Rest.{Rest}
-use Rattle.lists.specs.declared.Rest.TheVariants.{Left, Bad}
 use Rattle.lists.proofs.SumLaws.{clash}
 use Rattle.lists.proofs.WalkLaws.{sound, complete, decode, each, once}
 use Rattle.lists.proofs.Many.{sounds, completes}
@@ -164,13 +163,13 @@ module _ (l : List ℕ) where
     unfolding sum
     free_enough h = omega (arith, long_enough off (λ (x : ℕ). 0) (slot_room l) 1 (λ (k : ℕ). xs) free_low free_is free_names free_single (λ x i e. (omega arith, h x i e)))
 
-on_left_lem : (r : Rest) (f : ℕ → Bool) → on_left r f ≡ true → (m : ℕ) × (r ≡ Left m) × (f m ≡ true)
-on_left_lem (Left m) f e = (m, refl, e)
-on_left_lem Bad f e = absurd (clash false e refl)
+on_left_lem : (r : Option ℕ) (f : ℕ → Bool) → on_left r f ≡ true → (m : ℕ) × (r ≡ Some m) × (f m ≡ true)
+on_left_lem (Some m) f e = (m, refl, e)
+on_left_lem None f e = absurd (clash false e refl)
 
-pub leaves_left : (r : Rest) (m : ℕ) → leaves r m ≡ true → r ≡ Left m
-leaves_left (Left a) m e = ap Left (eqb-true a m e)
-leaves_left Bad m e = absurd (clash false e refl)
+pub leaves_left : (r : Option ℕ) (m : ℕ) → leaves r m ≡ true → r ≡ Some m
+leaves_left (Some a) m e = ap Some (eqb-true a m e)
+leaves_left None m e = absurd (clash false e refl)
 
 -- ---- the test is exact
 pub linked_sound : (t l : List ℕ) → linked_in t l ≡ true → Linked t l

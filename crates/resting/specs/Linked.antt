@@ -1,9 +1,8 @@
 -- Document 01, "Flags and tables at rest", first bullet: every slot is free, once on the free list, or live, and then once in each of its two lists.
-use Rattle.std.specs.Prelude.{ℕ, Bool, true, not, List, eqb, ltb, get_or}
+use Rattle.std.specs.Prelude.{ℕ, Bool, true, not, List, eqb, ltb, get_or, Option}
 use Rattle.primitive.specs.Words.{DEP, SUB, PREV-SUB, NEXT-SUB, PREV-DEP, NEXT-DEP, LIVE, FREE, DEPS, DEPS-TAIL, SUBS, SUBS-TAIL, node, link}
 use Rattle.lists.specs.Each.{both}
 use Rattle.lists.specs.Walk.{run, runs, leaves, on_left}
-use Rattle.lists.specs.declared.Rest.{Rest}
 use Rattle.resting.specs.declared.linked.Side.{Side}
 use Rattle.counting.specs.Counts.{counted_in, slot_room}
 
@@ -26,14 +25,14 @@ unfoldable pub spare : List ℕ → ℕ → Bool
 spare l x = both (ltb x (slot_room l)) (not (is_live_slot l x))
 
 -- the walks on a budget: of one node's list from the word w, p being the word before it; of all nodes' lists; of the free list
-unfoldable pub walk : List ℕ → Side → ℕ → ℕ → ℕ → ℕ → ℕ → Rest
+unfoldable pub walk : List ℕ → Side → ℕ → ℕ → ℕ → ℕ → ℕ → Option ℕ
 walk l s n tail b p w = run (λ (x : ℕ). link l x s.next) (λ (p x : ℕ). fits l s n p x) (λ (p : ℕ). eqb p tail) b p w
 
-unfoldable pub walks : List ℕ → List ℕ → Side → ℕ → ℕ → Rest
+unfoldable pub walks : List ℕ → List ℕ → Side → ℕ → ℕ → Option ℕ
 walks t l s count b =
     runs (λ (x : ℕ). link l x s.next) (λ (n p x : ℕ). fits l s n p x) (λ (n p : ℕ). eqb p (node t n s.tail)) (λ (n : ℕ). node t n s.head) count b
 
-unfoldable pub frees : List ℕ → ℕ → ℕ → Rest
+unfoldable pub frees : List ℕ → ℕ → ℕ → Option ℕ
 frees l b w = run (λ (x : ℕ). link l x NEXT-DEP) (λ (p x : ℕ). spare l x) (λ (p : ℕ). true) b 0 w
 
 -- the subscriber lists leave m of the slots, the dependency lists as many, and the free list has just those m

@@ -1,12 +1,11 @@
 -- Document 01, "Flags and tables at rest", fifth bullet: the queue and the batch depth.
-use Rattle.std.specs.Prelude.{ℕ, Bool, true, not, List, eqb, ltb, leb, get_or}
+use Rattle.std.specs.Prelude.{ℕ, Bool, true, not, List, eqb, ltb, leb, get_or, Option}
 use Rattle.primitive.specs.Words.{EFFECT, KIND, FLAGS, GONE, DEPTH, QUEUE, node}
 use Rattle.queue.specs.Queue.{queue_of}
 use Rattle.lists.specs.Sum.{count}
 use Rattle.lists.specs.Walk.{leaves}
 use Rattle.lists.specs.Each.{both, pick}
 use Rattle.lists.specs.Once.{scan}
-use Rattle.lists.specs.declared.Rest.{Rest}
 use Rattle.counting.specs.Counts.{counted_in}
 use Rattle.resting.specs.Blank.{blank}
 
@@ -30,7 +29,7 @@ unfoldable pub due : List ℕ → ℕ → Bool
 due t e = both (may_wait t e) (lives t e)
 
 -- entries xs with the marks s and a budget b
-unfoldable pub scanned : List ℕ → List ℕ → List ℕ → ℕ → Rest
+unfoldable pub scanned : List ℕ → List ℕ → List ℕ → ℕ → Option ℕ
 scanned t s xs b = scan (may_wait t) (lives t) s xs b
 
 -- at depth 0 the queue is empty

@@ -5,7 +5,6 @@ ghost use Rattle.sequencing.specs.Lists.{next_in};
 use formula::cells::natural;
 use primitive::words::signed_at;
 use sequencing::list::Next;
-use trees::cells::Number;
 
 pub fn head(list: &[i64]) -> Next
     ensures { result ≡ next_in list.now }
@@ -14,7 +13,7 @@ pub fn head(list: &[i64]) -> Next
     if n == 0 {
         return Next::Over;
     }
-    let Number::Is(k) = natural(signed_at(list, 0)) else {
+    let Some(k) = natural(signed_at(list, 0)) else {
         return Next::Bad;
     };
     let words = k as usize;

@@ -1,4 +1,5 @@
 -- A stack with room: a pop gives back what was pushed, and what lies below stays. Assumes nothing.
+use Rattle.std.specs.Prelude.{Some, None}
 use mathlib.Core.Path.{◌≡◌, refl}
 use mathlib.Core.List.{List}
 use Prim.Native.Nat.{ℕ, zero, suc, ◌-◌, ◌<◌, ◌≤◌}
@@ -7,7 +8,6 @@ use lib.ListN.{length, get_or}
 use lib.Seq.{get_or-set_same, get_or-set_other}
 use borrow.Author.Tests.{lt-ltb, le-ltb}
 use Rattle.stack.specs.Stack.{pushed, pushed_len, popped}
-use Rattle.stack.specs.declared.Popped.TheVariants.{Top, Empty}
 
 pub len_room : (s : List ℕ) (len : ℕ) → len < length s → pushed_len s len ≡ suc len
 unfolding pushed_len
@@ -17,7 +17,7 @@ pub len_full : (s : List ℕ) (len : ℕ) → length s ≤ len → pushed_len s 
 unfolding pushed_len
 len_full s len h = rw (le-ltb len (length s) h, pushed_len)
 
-pub pop_pushed : (s : List ℕ) (len w : ℕ) → len < length s → popped (pushed s len w) (pushed_len s len) ≡ Top w len
+pub pop_pushed : (s : List ℕ) (len w : ℕ) → len < length s → popped (pushed s len w) (pushed_len s len) ≡ Some (w, len)
 unfolding popped
 pop_pushed s len w h = rw (len_room s len h, get_or-set_same s len w 0 h)
 
@@ -25,11 +25,11 @@ pub below_kept : (s : List ℕ) (len w i : ℕ) → i < len → get_or (pushed s
 below_kept s len w i h = get_or-set_other s len i w 0 (λ e. omega arith)
 
 -- as the code pops
-pub pop_none : (s : List ℕ) (len : ℕ) → len ≡ 0 → Empty ≡ popped s len
+pub pop_none : (s : List ℕ) (len : ℕ) → len ≡ 0 → None ≡ popped s len
 unfolding popped
 pop_none s len h = rw h
 
-pub pop_some : (s : List ℕ) (len : ℕ) {w : ℕ} → (len ≡ 0 → ⊥) → w ≡ get_or s (len - 1) 0 → Top w (len - 1) ≡ popped s len
+pub pop_some : (s : List ℕ) (len : ℕ) {w : ℕ} → (len ≡ 0 → ⊥) → w ≡ get_or s (len - 1) 0 → Some (w, len - 1) ≡ popped s len
 unfolding popped
 pop_some s zero h e = absurd (h refl)
 pop_some s (suc n) {w} h e =

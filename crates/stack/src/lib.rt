@@ -4,13 +4,6 @@
 ghost use Rattle.std.specs.Prelude.{◌≡◌};
 ghost use Rattle.stack.specs.Stack.{pushed, pushed_len, popped};
 
-#[derive(Clone, Copy)]
-pub enum Popped {
-    // The word that was on top, and how many are left.
-    Top(u64, u64),
-    Empty,
-}
-
 // How many are in use then. A full stack stays as it is.
 pub fn push(s: &mut [u64], len: u64, w: u64) -> u64
     ensures { (result ≡ pushed_len s.old len) × (s.new ≡ pushed s.old len w) }
@@ -23,12 +16,13 @@ pub fn push(s: &mut [u64], len: u64, w: u64) -> u64
     len
 }
 
-pub fn pop(s: &[u64], len: u64) -> Popped
+// The word that was on top, and how many are left.
+pub fn pop(s: &[u64], len: u64) -> Option<(u64, u64)>
     ensures { result ≡ popped s.now len }
 {
     if len == 0 {
-        return Popped::Empty;
+        return None;
     }
     let rest = len - 1;
-    Popped::Top(primitive::words::at(s, rest), rest)
+    Some((primitive::words::at(s, rest), rest))
 }

@@ -1,8 +1,8 @@
 -- THE COMMAND: on tables that represent a well-formed state, what `command` does to the words is what it does to the lists. Assumes nothing.
+use Rattle.std.specs.Prelude.{Option, Some}
 use mathlib.Core.Path.{◌≡◌, refl, sym, ap, subst}
 use mathlib.Core.Bool.{true, false}
 use mathlib.Core.List.{List, []}
-use mathlib.Core.Option.{Option, some}
 use Prim.Native.Nat.{ℕ, zero, suc, ◌*◌, ◌/◌, ◌≤◌}
 use native.Mathlib.Omega.{arith}
 use lib.IntN.{ℤ}
@@ -37,7 +37,7 @@ module _ (N L : List ℕ) (W C l ws : List ℤ) (s : St) (r : Rep N L W C s) (w 
       let k = known s rows ws a in
       let c = k.0 in
       let p = performedL s rows ws c k.1 a in
-      let fit : (b : Command) → command_of ws ≡ some b → length (perform (with_log s []) b).st.log * 2 ≤ length l =
+      let fit : (b : Command) → command_of ws ≡ Some b → length (perform (with_log s []) b).st.log * 2 ≤ length l =
       λ b q. let e = ap (λ (z : Answer). length z.rows) (performedL s rows ws b q a).0 in let f = rows_fit s rows ws w in omega arith in
       let d = performs (state N L W) C l s rows r w free ws fit c k.1 p.1 in
       subst (SameAnswer l (accepted (performed (state N L W) C l (brief (command_of ws)) (formula_in ws)))) (sym p.0)

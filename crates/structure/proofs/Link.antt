@@ -1,9 +1,9 @@
 -- The words of `linked` are the lists of `link`: all four outcomes. Assumes nothing.
+use Rattle.std.specs.Prelude.{Option, None, Some}
 use mathlib.Core.Path.{◌≡◌, refl, sym, ap, ap₂, ◌∙◌, subst}
 use mathlib.Core.Bool.{Bool, true, false, not, ◌&&◌}
 use mathlib.Core.Logic.{inl, inr}
 use mathlib.Core.List.{List, [], ◌∷◌, ◌++◌, append_assoc}
-use mathlib.Core.Option.{Option, none, some}
 use Prim.Native.Nat.{ℕ, zero, suc, ◌<◌}
 use native.Mathlib.Omega.{arith}
 use lib.Dec.{eqb}
@@ -38,16 +38,16 @@ both_ways R b false e {x} {y} {p} {q} f g = subst (λ (z : Bool). R (elim z [ tr
 -- ---- the tests
 -- the word of a slot or of nothing
 abbrev word_of : ℕ → Option ℕ → ℕ
-word_of p none = p
-word_of p (some x) = suc x
+word_of p None = p
+word_of p (Some x) = suc x
 
 last_is : (p : ℕ) (xs : List ℕ) → last_word p xs ≡ word_of p (last_of xs)
 last_is p [] = refl
 last_is p (x ∷ xs) = last_is (suc x) xs ∙ go (last_of xs)
   where
-    go : (o : Option ℕ) → word_of (suc x) o ≡ word_of p (elim o [ none ↦ some x | some y ↦ some y ])
-    go none = refl
-    go (some y) = refl
+    go : (o : Option ℕ) → word_of (suc x) o ≡ word_of p (elim o [ None ↦ Some x | Some y ↦ Some y ])
+    go None = refl
+    go (Some y) = refl
 
 first_is : (xs : List ℕ) → first_word xs ≡ word_of 0 (head_of xs)
 first_is [] = refl
@@ -55,14 +55,14 @@ first_is (x ∷ xs) = refl
 
 names_is : (L : List ℕ) (s : St) (d : ℕ) → ((x : ℕ) → link L x DEP ≡ s.dep x) → (o : Option ℕ) → names L (word_of 0 o) d ≡ goes_to s o d
 unfolding names
-names_is L s d h none = refl
-names_is L s d h (some x) = ap (λ (z : ℕ). eqb z d) (h x)
+names_is L s d h None = refl
+names_is L s d h (Some x) = ap (λ (z : ℕ). eqb z d) (h x)
 
 newest_is : (t : Tab) (s : St) (d u v : ℕ) → ((x : ℕ) → link t.links x VERSION ≡ s.ver x) → ((x : ℕ) → link t.links x SUB ≡ s.sub x) → (o : Option ℕ)
     → node t.nodes d SUBS-TAIL ≡ word_of 0 o → newest t d u v ≡ is_from s o u v
 unfolding newest
-newest_is t s d u v h k none e = ap (λ (z : ℕ). newest_on (slot_of z) t.links u v) e
-newest_is t s d u v h k (some x) e =
+newest_is t s d u v h k None e = ap (λ (z : ℕ). newest_on (slot_of z) t.links u v) e
+newest_is t s d u v h k (Some x) e =
     ap (λ (z : ℕ). newest_on (slot_of z) t.links u v) e ∙ ap (λ (z : ℕ). elim (eqb z v) [ true ↦ eqb (link t.links x SUB) u | false ↦ false ]) (h x)
     ∙ ap (λ (z : ℕ). elim (eqb (s.ver x) v) [ true ↦ eqb z u | false ↦ false ]) (k x) ∙ go (eqb (s.ver x) v)
   where

@@ -1,8 +1,8 @@
 -- The making of nodes over words is the making of nodes over lists: a signal, a computed, a scope, and an effect up to its run. Assumes nothing.
+use Rattle.std.specs.Prelude.{Option, None, Some}
 use mathlib.Core.Path.{◌≡◌, refl, sym, ap, ◌∙◌, subst, fun_ext}
 use mathlib.Core.Bool.{false}
 use mathlib.Core.List.{List, []}
-use mathlib.Core.Option.{Option, none, some}
 use Prim.Native.Nat.{ℕ, suc, min}
 use native.Mathlib.Omega.{arith}
 use lib.IntN.{ℤ, pos}
@@ -46,9 +46,9 @@ module _ (x : State) (C : List ℤ) (s : St) (r : Sees [] x C s) where
       let e = make_is [] x C s k ws v K t o b r fits says in
       subst (λ (m : Made). Makes m s (node s K t o b v)) (sym e) (record { sees = make_sees [] x C s k ws v K t o b r fits says; number = refl })
 
-  pub signal_makes : (v : Value) → Fits s signal (constant (pos 0)) none → Makes (new_signal x C v) s (signalL s v)
+  pub signal_makes : (v : Value) → Fits s signal (constant (pos 0)) None → Makes (new_signal x C v) s (signalL s v)
   unfolding new_signal signalL
-  signal_makes v fits = made_as (sort SIGNAL (bits 1) 0 0) [] v signal (constant (pos 0)) none f1 fits (record { kind = refl; flags = refl; owner = refl; level = refl; written = λ e. false≢true e; without = λ e. (refl, refl) })
+  signal_makes v fits = made_as (sort SIGNAL (bits 1) 0 0) [] v signal (constant (pos 0)) None f1 fits (record { kind = refl; flags = refl; owner = refl; level = refl; written = λ e. false≢true e; without = λ e. (refl, refl) })
 
   -- heights and owner depths are the same
   levels : (λ (n : ℕ). word x.nodes n LEVEL) ≡ s.level
@@ -61,12 +61,12 @@ module _ (x : State) (C : List ℤ) (s : St) (r : Sees [] x C s) where
   depth_is : (o : Option ℕ) → depth_under x.nodes (owner_word o) ≡ depthUnderOf s.level o
   depth_is o = depth_same x.nodes (owner_word o) ∙ ap (depthUnderOf (λ (n : ℕ). word x.nodes n LEVEL)) (owner_back o) ∙ ap (λ (f : ℕ → ℕ). depthUnderOf f o) levels
 
-  pub computed_makes : (ws : List ℤ) (t : Tree) → ws ≡ written t → Fits s computed t none → Makes (new_computed x C ws) s (computedL s t)
+  pub computed_makes : (ws : List ℤ) (t : Tree) → ws ≡ written t → Fits s computed t None → Makes (new_computed x C ws) s (computedL s t)
   unfolding new_computed computedL
   computed_makes ws t e fits =
       let h : height_in x.nodes ws ≡ height_of s.level t = ap (height_in x.nodes) e ∙ height_is t in
       let low = fits.level in
-      made_as (sort COMPUTED (bits 0) 0 (min (suc most_height) (height_in x.nodes ws))) ws (value (pos 0)) computed t none f0 fits
+      made_as (sort COMPUTED (bits 0) 0 (min (suc most_height) (height_in x.nodes ws))) ws (value (pos 0)) computed t None f0 fits
       (record { kind = refl; flags = refl; owner = refl; level = omega arith; written = λ q. e; without = λ q. false≢true (sym q) })
 
   -- ---- with an owner
@@ -78,13 +78,13 @@ module _ (x : State) (C : List ℤ) (s : St) (r : Sees [] x C s) where
     owned_sees K t b calm fits q y C' z = go o refl
       where
         go : (p : Option ℕ) → o ≡ p → Sees [] (owned_by y s.size (slot_of (owner_word p))) C' (ownedL (node s K t o b nothing) s.size p)
-        go none e = z
-        go (some p) e =
+        go None e = z
+        go (Some p) e =
             let N : St = node s K t o b nothing in
             let st = new_static s w K t o b nothing fits in
             let i = new_inside s w K t o b nothing fits calm in
             let low = (fits.owner p e).0 in
-            let k : (ownedL N s.size (some p)).stuck ≡ false = subst (λ (a : Option ℕ). (ownedL N s.size a).stuck ≡ false) e ((madeL s w K t b nothing calm o fits (λ a h. q)).stuck ∙ free) in
+            let k : (ownedL N s.size (Some p)).stuck ≡ false = subst (λ (a : Option ℕ). (ownedL N s.size a).stuck ≡ false) e ((madeL s w K t b nothing calm o fits (λ a h. q)).stuck ∙ free) in
             link_shows [] (tab y.nodes y.links) y.values C' N s.size p 0 (inside_held (G s w K t o b nothing fits) (also nobody s.size) N st i) z (omega arith) (omega arith) (slot_found N s.size p 0 k)
 
     -- a new node with the link to its owner

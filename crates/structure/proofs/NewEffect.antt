@@ -1,8 +1,8 @@
 -- A new effect with its first run, over words and over lists: its row is the first of the log. Assumes nothing.
+use Rattle.std.specs.Prelude.{Option, None, Some}
 use mathlib.Core.Path.{◌≡◌, refl, sym, ap, ◌∙◌, subst}
 use mathlib.Core.Bool.{false}
 use mathlib.Core.List.{List, [], ◌∷◌, ◌++◌}
-use mathlib.Core.Option.{Option, none, some}
 use Prim.Native.Nat.{ℕ, ◌+◌, ◌*◌, ◌^◌, ◌<◌, ◌≤◌}
 use native.Mathlib.Omega.{arith}
 use lib.IntN.{ℤ, pos}
@@ -41,8 +41,8 @@ use Rattle.structure.proofs.Flushes.{nodes_few}
 use Rattle.structure.proofs.Makings.{Makes, with_owner, effect_makes}
 
 pub owned_log : (s : St) (n : ℕ) (o : Option ℕ) → (ownedL s n o).log ≡ s.log
-owned_log s n none = refl
-owned_log s n (some p) = ap (λ (f : Fixed). f.log) (link_still s n p 0).same
+owned_log s n None = refl
+owned_log s n (Some p) = ap (λ (f : Fixed). f.log) (link_still s n p 0).same
 
 module _ (x : State) (C : List ℤ) (s : St) (r : Sees [] x C s) (w : WellFormed s) (free : s.stuck ≡ false) (blank : s.log ≡ []) (o : Option ℕ)
     (ws : List ℤ) (t : Tree) (spelt : ws ≡ written t) (fits : Fits s effect t o) where

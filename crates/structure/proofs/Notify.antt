@@ -1,9 +1,9 @@
 -- Notify over words is notify over lists: an effect and its watching owners are pushed, and the new part is turned round. Assumes nothing.
+use Rattle.std.specs.Prelude.{Option, None, Some}
 use mathlib.Core.Path.{◌≡◌, refl, sym, ap, ap₂, ◌∙◌, subst}
 use mathlib.Core.Bool.{Bool, true, false, not}
 use mathlib.Core.Logic.{inl}
 use mathlib.Core.List.{List, [], ◌∷◌, ◌++◌, reverse, append_assoc, append-nil}
-use mathlib.Core.Option.{Option, none, some}
 use Prim.Native.Nat.{ℕ, zero, suc, ◌+◌, ◌/◌, ◌%◌, ◌<◌, ◌≤◌}
 use native.Mathlib.Omega.{arith}
 use lib.Dec.{eqb, ltb}
@@ -124,7 +124,7 @@ module _ (g : Given) (st : Static g) (L : List ℕ) (s : St) (i : Inside g nobod
     pub owns : readable (g.kind e) ≡ false
     pub alive : s.gone e ≡ false
 
-  module _ (e o : ℕ) (v : Lives e) (w : g.owner e ≡ some o) where
+  module _ (e o : ℕ) (v : Lives e) (w : g.owner e ≡ Some o) where
     abbrev link_up : (l : ℕ) × (s.subs e ≡ l ∷ []) × (s.sub l ≡ o)
     link_up = (i.rests e v.low (λ z. z)).owned o v.alive w
 
@@ -161,7 +161,7 @@ module _ (g : Given) (st : Static g) (L : List ℕ) (s : St) (i : Inside g nobod
   onward b k o = elim b [ true ↦ chain k g.owner f₀ o | false ↦ [] ]
 
   abbrev above : ℕ → Option ℕ → List ℕ
-  above k w = elim w [ none ↦ [] | some o ↦ elim (f₀ o).watching [ true ↦ chain k g.owner f₀ o | false ↦ [] ] ]
+  above k w = elim w [ None ↦ [] | Some o ↦ elim (f₀ o).watching [ true ↦ chain k g.owner f₀ o | false ↦ [] ] ]
 
   -- what is left of the climb, from the owner w of e
   abbrev Climbs : ℕ → Type 0
@@ -173,30 +173,30 @@ module _ (g : Given) (st : Static g) (L : List ℕ) (s : St) (i : Inside g nobod
       → (M : List ℕ) (f : ℕ → Named) (q : List ℕ) (e : ℕ) (v : Lives e) → ((n : ℕ) → n < e → f n ≡ f₀ n) → Marked [] M s f q → (w : Option ℕ) → g.owner e ≡ w
       → length q + length (above k w) ≤ s.room.nodes → Marked [] (owner_of p L M (slot_of (subs M e))) s (calm (above k w) f) (q ++ above k w)
   unfolding owner_of calm
-  owner_sim k p h M f q e v agree m none w room =
+  owner_sim k p h M f q e v agree m None w room =
       subst (λ (z : ℕ). Marked [] (owner_of p L M (slot_of z)) s f (q ++ [])) (sym (m.heads e (low_at e v.low) ∙ ap first_word ((i.rests e v.low (λ z. z)).unowned v.owns w)))
       (subst (Marked [] M s f) (sym (append-nil q)) m)
-  owner_sim k p h M f q e v agree m (some o) w room =
+  owner_sim k p h M f q e v agree m (Some o) w room =
       let l = link_up e o v w in
       let lives = o_lives e o v w in
       let lower = o_lower e o v w in
       let same : f o ≡ f₀ o = agree o (o_lower e o v w) in
-      subst (λ (z : ℕ). Marked [] (owner_of p L M (slot_of z)) s (calm (above k (some o)) f) (q ++ above k (some o))) (sym (m.heads e (low_at e v.low) ∙ ap first_word l.1))
-      (subst (λ (z : ℕ). Marked [] (elim (lacks (flags_of M z) watching) [ true ↦ M | false ↦ p M z ]) s (calm (above k (some o)) f) (q ++ above k (some o))) (sym (subs-are l.0 ∙ l.2))
+      subst (λ (z : ℕ). Marked [] (owner_of p L M (slot_of z)) s (calm (above k (Some o)) f) (q ++ above k (Some o))) (sym (m.heads e (low_at e v.low) ∙ ap first_word l.1))
+      (subst (λ (z : ℕ). Marked [] (elim (lacks (flags_of M z) watching) [ true ↦ M | false ↦ p M z ]) s (calm (above k (Some o)) f) (q ++ above k (Some o))) (sym (subs-are l.0 ∙ l.2))
       (watch (f₀ o).watching refl (ap (λ (z : ℕ). lacks z watching) (flag_is [] M s f q m o (low_at o lives.low)) ∙ lacks_watching (f o) ∙ ap (λ (z : Named). not z.watching) same) lives
       (λ n c. agree n (less n o e c lower)) room))
     where
       less : (n o e : ℕ) → n < o → o < e → n < e
       less n o e a b = omega arith
 
-      watch : (b : Bool) → (f₀ o).watching ≡ b → lacks (flags_of M o) watching ≡ not (f₀ o).watching → Lives o → ((n : ℕ) → n < o → f n ≡ f₀ n) → length q + length (above k (some o)) ≤ s.room.nodes
-          → Marked [] (elim (lacks (flags_of M o) watching) [ true ↦ M | false ↦ p M o ]) s (calm (above k (some o)) f) (q ++ above k (some o))
+      watch : (b : Bool) → (f₀ o).watching ≡ b → lacks (flags_of M o) watching ≡ not (f₀ o).watching → Lives o → ((n : ℕ) → n < o → f n ≡ f₀ n) → length q + length (above k (Some o)) ≤ s.room.nodes
+          → Marked [] (elim (lacks (flags_of M o) watching) [ true ↦ M | false ↦ p M o ]) s (calm (above k (Some o)) f) (q ++ above k (Some o))
       watch true x y lv ag rm =
-          subst (λ (z : Bool). Marked [] (elim z [ true ↦ M | false ↦ p M o ]) s (calm (above k (some o)) f) (q ++ above k (some o))) (sym (y ∙ ap not x))
+          subst (λ (z : Bool). Marked [] (elim z [ true ↦ M | false ↦ p M o ]) s (calm (above k (Some o)) f) (q ++ above k (Some o))) (sym (y ∙ ap not x))
           (subst (λ (z : Bool). length q + length (onward z k o) ≤ s.room.nodes
           → Marked [] (p M o) s (calm (onward z k o) f) (q ++ onward z k o)) (sym x) (λ rm. h M f q o lv ag m rm) rm)
       watch false x y lv ag rm =
-          subst (λ (z : Bool). Marked [] (elim z [ true ↦ M | false ↦ p M o ]) s (calm (above k (some o)) f) (q ++ above k (some o))) (sym (y ∙ ap not x))
+          subst (λ (z : Bool). Marked [] (elim z [ true ↦ M | false ↦ p M o ]) s (calm (above k (Some o)) f) (q ++ above k (Some o))) (sym (y ∙ ap not x))
           (subst (λ (z : Bool). Marked [] M s (calm (onward z k o) f) (q ++ onward z k o)) (sym x)
           (subst (Marked [] M s f) (sym (append-nil q)) m))
 
@@ -230,8 +230,8 @@ module _ (g : Given) (st : Static g) (L : List ℕ) (s : St) (i : Inside g nobod
       at false o r c = refl
 
       go : ((o : ℕ) → length (chain k g.owner f₀ o) ≤ k → chain j g.owner f₀ o ≡ chain k g.owner f₀ o) → (w : Option ℕ) → length (above k w) ≤ k → above j w ≡ above k w
-      go r none c = refl
-      go r (some o) c = at (f₀ o).watching o (r o) c
+      go r None c = refl
+      go r (Some o) c = at (f₀ o).watching o (r o) c
 
   -- ---- the whole, whatever budget is enough
   pub notify_within : (N : List ℕ) (q : List ℕ) (e : ℕ) → Lives e → Marked [] N s f₀ q → length q + length (chain s.room.nodes g.owner f₀ e) ≤ s.room.nodes → (j : ℕ) → node_rows N ≤ j

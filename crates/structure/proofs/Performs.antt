@@ -1,8 +1,8 @@
 -- An accepted command over words is the command over lists: one case each of the ten. Assumes nothing.
+use Rattle.std.specs.Prelude.{Option, None, Some, unwrap_or}
 use mathlib.Core.Path.{◌≡◌, refl, sym, ap, ◌∙◌, subst}
 use mathlib.Core.Bool.{true, false, not}
 use mathlib.Core.List.{List, []}
-use mathlib.Core.Option.{Option, none, some, get_or}
 use Prim.Native.Nat.{ℕ, ◌*◌, ◌≤◌}
 use native.Mathlib.Omega.{arith}
 use lib.IntN.{ℤ, pos, negsuc}
@@ -49,24 +49,24 @@ use Rattle.structure.proofs.NewEffect.{owned_log, effect_leaves}
 -- ---- the cells of a command
 -- what follows the code, or the owner, is the formula
 cells_in : Option Command → List ℤ
-cells_in none = []
-cells_in (some (make_signal v)) = []
-cells_in (some (make_computed cs)) = cs
-cells_in (some (make_effect o cs)) = cs
-cells_in (some (make_scope o)) = []
-cells_in (some (set_to n v)) = []
-cells_in (some (add_to n d)) = []
-cells_in (some (read_of n)) = []
-cells_in (some (dispose_of n)) = []
-cells_in (some batch_start) = []
-cells_in (some batch_end) = []
+cells_in None = []
+cells_in (Some (make_signal v)) = []
+cells_in (Some (make_computed cs)) = cs
+cells_in (Some (make_effect o cs)) = cs
+cells_in (Some (make_scope o)) = []
+cells_in (Some (set_to n v)) = []
+cells_in (Some (add_to n d)) = []
+cells_in (Some (read_of n)) = []
+cells_in (Some (dispose_of n)) = []
+cells_in (Some batch_start) = []
+cells_in (Some batch_end) = []
 
-computed_cells : (ws cs : List ℤ) → command_of ws ≡ some (make_computed cs) → formula_in ws ≡ cs
+computed_cells : (ws cs : List ℤ) → command_of ws ≡ Some (make_computed cs) → formula_in ws ≡ cs
 unfolding formula_in cells_from brief asked told cells_in
 computed_cells ws cs e =
     ap (λ (c : Option Command). drop (from_or (asked (brief c)).from (length ws)) ws) e ∙ sym (ap cells_in (sym e ∙ told_is ws ∙ ap (λ (c : Option Command). told (brief c) ws) e))
 
-effect_cells : (ws cs : List ℤ) (o : ℤ) → command_of ws ≡ some (make_effect o cs) → formula_in ws ≡ cs
+effect_cells : (ws cs : List ℤ) (o : ℤ) → command_of ws ≡ Some (make_effect o cs) → formula_in ws ≡ cs
 unfolding formula_in cells_from brief asked told cells_in
 effect_cells ws cs o e =
     ap (λ (c : Option Command). drop (from_or (asked (brief c)).from (length ws)) ws) e ∙ sym (ap cells_in (sym e ∙ told_is ws ∙ ap (λ (c : Option Command). told (brief c) ws) e))
@@ -75,9 +75,9 @@ effect_cells ws cs o e =
 legal_written : (v : Sight) (cs : List ℤ) → not (legal_cells v cs) ≡ false → cs ≡ written (formula_of cs)
 legal_written v cs e = go (tree_of cs) refl e
   where
-    go : (o : Option Tree) → tree_of cs ≡ o → not (on o (λ t. all_readable v (names t))) ≡ false → cs ≡ written (get_or o (constant (pos 0)))
-    go none q a = false≢true (sym a)
-    go (some t) q a = ((tree_exact cs t).0 q).spelt
+    go : (o : Option Tree) → tree_of cs ≡ o → not (on o (λ t. all_readable v (names t))) ≡ false → cs ≡ written (unwrap_or o (constant (pos 0)))
+    go None q a = false≢true (sym a)
+    go (Some t) q a = ((tree_exact cs t).0 q).spelt
 
 -- an owner as a number and as a word
 owner_is_word : (o : ℤ) → owner_word o ≡ word_of (owner_of o)
@@ -120,8 +120,8 @@ module _ (x : State) (C l : List ℤ) (s : St) (rows : ℕ) (r : Sees [] x C s) 
   stills : (y : State) (t : St) → Still S t → Sees [] y C t → Leaves l C (ran_to y l 0) t
   stills y t k z = quiet_leaves l C y t (ap (λ (f : Fixed). f.log) k.same) z
 
-  module _ (ws : List ℤ) (fit : (c : Command) → command_of ws ≡ some c → length (perform S c).st.log * 2 ≤ length l) where
-    pub performs : (c : Command) → command_of ws ≡ some c → NoneHolds (table true (sight_of s rows) (some c)) → Performs l (performed x C l (brief (some c)) (formula_in ws)) (perform S c)
+  module _ (ws : List ℤ) (fit : (c : Command) → command_of ws ≡ Some c → length (perform S c).st.log * 2 ≤ length l) where
+    pub performs : (c : Command) → command_of ws ≡ Some c → NoneHolds (table true (sight_of s rows) (Some c)) → Performs l (performed x C l (brief (Some c)) (formula_in ws)) (perform S c)
     unfolding performed perform readIn brief table wrong_node gone_node bad_formula wrong_depth asks_of new_signal new_computed new_scope
     performs (make_signal v) e h = numbers _ _ refl (signal_makes x C S r_s (value v) (signal_fits s rows w v h))
     performs (make_computed cs) e h =

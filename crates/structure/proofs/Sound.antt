@@ -1,9 +1,9 @@
 -- The state that is read from tables that the test passes is well formed. Assumes nothing.
+use Rattle.std.specs.Prelude.{None, Some}
 use mathlib.Core.Path.{◌≡◌, refl, sym, ap, fun_ext, ◌∙◌, subst, subst₂}
 use mathlib.Core.Logic.{◌⊎◌, inl, inr}
 use mathlib.Core.Bool.{true, false}
 use mathlib.Core.List.{List, [], ◌∷◌, append-nil}
-use mathlib.Core.Option.{none, some}
 use Prim.Native.Nat.{ℕ, suc, ◌%◌, ◌≤◌, ◌<◌}
 use native.Mathlib.Omega.{arith}
 use lib.IntN.{ℤ, pos}
@@ -214,32 +214,32 @@ module _ (N L : List ℕ) (W C : List ℤ) (d : Described N L W C) (j : Joined N
     unread : readable (s.kind n) ≡ false → readable_in N n ≡ false
     unread e = readable_within N n h ∙ e
 
-    owned_reads : {A : Type 0} (o : ℕ) → s.owner n ≡ some o → (Owns n → A) → A
+    owned_reads : {A : Type 0} (o : ℕ) → s.owner n ≡ Some o → (Owns n → A) → A
     owned_reads {A} o e f = go sort
       where
         go : Stands n ⊎ Owns n → A
         go (inl p) = let z = owner_some (node N n OWNER) o e in let u = p.2 in absurd (omega arith)
         go (inr p) = f p
 
-    one_owner : (o : ℕ) → s.gone n ≡ false → s.owner n ≡ some o → (x : ℕ) × (S n ≡ x ∷ []) × (s.sub x ≡ o)
+    one_owner : (o : ℕ) → s.gone n ≡ false → s.owner n ≡ Some o → (x : ℕ) × (S n ≡ x ∷ []) × (s.sub x ≡ o)
     one_owner o g e =
         owned_reads o e (λ p.
         let q = (j.owned n (known N L W C d n h)).owned (unread p.0) (unmarked (node N n GONE) g) o (owner_some (node N n OWNER) o e) in
         (q.0, of_a_node N n (subs_of N L n) h ∙ q.1, q.2))
 
-    owner_lower : (o : ℕ) → s.owner n ≡ some o → o < n
+    owner_lower : (o : ℕ) → s.owner n ≡ Some o → o < n
     owner_lower o e = owned_reads o e (λ p. let a = owner_some (node N n OWNER) o e in let b = p.1 in omega arith)
 
-    unowned : readable (s.kind n) ≡ false → s.owner n ≡ none → S n ≡ []
+    unowned : readable (s.kind n) ≡ false → s.owner n ≡ None → S n ≡ []
     unowned e f =
         of_a_node N n (subs_of N L n) h
         ∙ either (s.gone n) (λ g. ((j.owned n (known N L W C d n h)).gone (unread e) (marked (node N n GONE) g)).0)
         (λ g. (j.owned n (known N L W C d n h)).unowned (unread e) (unmarked (node N n GONE) g) (owner_none (node N n OWNER) f))
 
-    owner_kind : readable (s.kind n) ≡ true → s.owner n ≡ none
+    owner_kind : readable (s.kind n) ≡ true → s.owner n ≡ None
     owner_kind e = go sort
       where
-        go : Stands n ⊎ Owns n → s.owner n ≡ none
+        go : Stands n ⊎ Owns n → s.owner n ≡ None
         go (inl p) = ap owner_in p.2
         go (inr p) = clash e p.0
 

@@ -1,9 +1,9 @@
 -- Propagate over words, with its stack of words, is propagate over lists. For any turns and any stack that are enough. Assumes nothing.
+use Rattle.std.specs.Prelude.{Option}
 use mathlib.Core.Path.{◌≡◌, refl, sym, ap, ◌∙◌, subst}
 use mathlib.Core.Bool.{Bool, true, false, not}
 use mathlib.Core.Logic.{◌⊎◌, inl, inr}
 use mathlib.Core.List.{List, [], ◌∷◌, ◌++◌, reverse}
-use mathlib.Core.Option.{Option}
 use Prim.Native.Nat.{ℕ, zero, suc, ◌+◌, ◌<◌, ◌≤◌}
 use native.Mathlib.Omega.{arith}
 use lib.Bits.{bit_or}
@@ -108,10 +108,10 @@ module _ (g : Given) (st : Static g) (L : List ℕ) (s : St) (subs-are : (x : �
     after_mark = (mark_inside g st (with_marks s m) i l ok.0 ok.1 calm-now).inside
 
     u_alive : s.gone u ≡ false
-    u_alive = either (s.gone u) (λ a. absurd (none a)) (λ a. a)
+    u_alive = either (s.gone u) (λ a. absurd (None a)) (λ a. a)
       where
-        none : s.gone u ≡ true → ⊥
-        none a =
+        None : s.gone u ≡ true → ⊥
+        None a =
             let r = i.rests u u_low (λ z. z) in
             in_cases l (s.done u) (s.rest u) (i.lists.live_in_deps l ok.0) (λ z. nil_none (s.done u) l (r.bare a).0 z) (λ z. nil_none (s.rest u) l r.tail z)
 

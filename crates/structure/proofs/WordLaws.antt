@@ -1,9 +1,9 @@
 -- What single words say, of a node and of its formula. Assumes nothing.
+use Rattle.std.specs.Prelude.{Option, None, Some}
 use mathlib.Core.Path.{◌≡◌, refl, sym, ap, ◌∙◌, subst}
 use mathlib.Core.Logic.{inl, inr}
 use mathlib.Core.Bool.{Bool, true, false, not}
 use mathlib.Core.List.{List, [], ◌∷◌, ◌++◌, append-nil, append_assoc}
-use mathlib.Core.Option.{Option, none, some}
 use Prim.Native.Nat.{ℕ, zero, suc, ◌+◌, ◌*◌, ◌/◌, ◌≤◌, ◌<◌, max}
 use native.Mathlib.Omega.{arith}
 use lib.Dec.{eqb, ltb}
@@ -84,13 +84,13 @@ owner_word_lem zero = refl
 owner_word_lem (suc o) = refl
 
 pub owner_back : (o : Option ℕ) → owner_in (owner_word o) ≡ o
-owner_back none = refl
-owner_back (some o) = refl
+owner_back None = refl
+owner_back (Some o) = refl
 
-pub owner_some : (w o : ℕ) → owner_in w ≡ some o → w ≡ suc o
+pub owner_some : (w o : ℕ) → owner_in w ≡ Some o → w ≡ suc o
 owner_some w o e = owner_word_lem w ∙ ap owner_word e
 
-pub owner_none : (w : ℕ) → owner_in w ≡ none → w ≡ 0
+pub owner_none : (w : ℕ) → owner_in w ≡ None → w ≡ 0
 owner_none w e = owner_word_lem w ∙ ap owner_word e
 
 -- ---- nodes below the count

@@ -1,6 +1,5 @@
 -- Lent tables read as a state of `meaning`, as they are between commands: each list from its head, at most as many slots as there are.
-use Rattle.std.specs.Prelude.{Bool, true, false, not, List, [], ℕ, zero, suc, eqb, ltb, ℤ, pos, get_or}
-use Rattle.std.proofs.Math.Option.{Option, none, some}
+use Rattle.std.specs.Prelude.{Bool, true, false, not, List, [], ℕ, zero, suc, eqb, ltb, ℤ, pos, get_or, Option, None, Some}
 use Rattle.flags.specs.Flags.{named}
 use Rattle.queue.specs.Queue.{queue_of}
 use Rattle.primitive.specs.Words.{COUNT, USED, DEPTH, KIND, GONE, OWNER, LEVEL, VERSION, DEP, SUB, node, link}
@@ -23,8 +22,8 @@ of_node N n xs = elim (ltb n (get_or N COUNT 0)) [ true ↦ xs | false ↦ [] ]
 
 -- an owner word: 0 for none, o + 1 for node o
 abbrev pub owner_in : ℕ → Option ℕ
-owner_in zero = none
-owner_in (suc o) = some o
+owner_in zero = None
+owner_in (suc o) = Some o
 
 abbrev pub or_constant : Bool → Tree → Tree
 or_constant true t = t

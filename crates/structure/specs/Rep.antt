@@ -1,7 +1,6 @@
 -- Lent tables represent a state of `meaning`: an equation for each word that says something. N, L are the node and the link table, W the values, C the cells.
 -- A part speaks of the columns that it names, so that a change of any other column leaves it as it is. The log and `stuck` are in no table.
-use Rattle.std.specs.Prelude.{◌≡◌, Bool, true, false, not, List, [], ◌++◌, ℕ, zero, suc, ◌+◌, ◌*◌, ◌<◌, ◌≤◌, eqb, ℤ, pos, length, get_or}
-use Rattle.std.proofs.Math.Option.{Option, none, some}
+use Rattle.std.specs.Prelude.{◌≡◌, Bool, true, false, not, List, [], ◌++◌, ℕ, zero, suc, ◌+◌, ◌*◌, ◌<◌, ◌≤◌, eqb, ℤ, pos, length, get_or, Option, None, Some}
 use Rattle.flags.specs.declared.Named.{Named}
 use Rattle.values.specs.declared.Value.{Value}
 use Rattle.flags.specs.Flags.{named}
@@ -44,8 +43,8 @@ kind_word scope = SCOPE
 
 -- 0 if there is none, else the owner's number and 1
 abbrev pub owner_word : Option ℕ → ℕ
-owner_word none = 0
-owner_word (some o) = suc o
+owner_word None = 0
+owner_word (Some o) = suc o
 
 pub record Kinds (N : List ℕ) (count : ℕ) (kinds : ℕ → Kind) (gones : ℕ → Bool) (owners : ℕ → Option ℕ) (levels : ℕ → ℕ) : Type 0 where
   pub kind : (n : ℕ) → kind_of (node N n KIND) ≡ kinds n

@@ -6,8 +6,7 @@ ghost use Rattle.spelling.specs.Pairs.{count_from, worth, worths, arg_words, tak
 ghost use Rattle.spelling.specs.Buffers.{buffer, put, pushed};
 
 use crate::numbers::number;
-use spelling::lines::{Count, End, Found};
-use spelling::numbers::Spelled;
+use spelling::lines::{End, Found};
 
 // The first place where b stands, or the length.
 fn first(s: &[u8], b: u8) -> usize
@@ -53,17 +52,17 @@ pub fn line_end(s: &[u8]) -> End
 }
 
 // The one number of a line `cmd=N`.
-pub fn command_line(s: &[u8]) -> Spelled
+pub fn command_line(s: &[u8]) -> Option<i64>
     ensures { result ≡ command_line s.now }
 {
     if has_key(s, b"cmd=") {
         return number(&s[4..]);
     }
-    Spelled::Not
+    None
 }
 
 // The numbers of s, one space between; an empty s is no number.
-fn count_of(s: &[u8]) -> Count
+fn count_of(s: &[u8]) -> Option<usize>
     ensures { result ≡ count_from 0 (each_spelled (pieces space s.now)) }
 {
     let mut n = 0;
@@ -71,36 +70,36 @@ fn count_of(s: &[u8]) -> Count
     while at < s.len() {
         let rest = &s[at..];
         let i = first(rest, 32);
-        let Spelled::Is(z) = number(&rest[0..i]) else {
-            return Count::Fault;
+        let Some(z) = number(&rest[0..i]) else {
+            return None;
         };
         n += 1;
         if rest.len() <= i {
-            return Count::Are(n);
+            return Some(n);
         }
         at = at + i + 1;
     }
-    Count::Fault
+    None
 }
 
 // How many numbers a line `args=..` has.
-pub fn args_line(s: &[u8]) -> Count
+pub fn args_line(s: &[u8]) -> Option<usize>
     ensures { result ≡ count_from 0 (args_line s.now) }
 {
     if has_key(s, b"args=") {
         if s.len() == 5 {
-            return Count::Are(0);
+            return Some(0);
         }
         return count_of(&s[5..]);
     }
-    Count::Fault
+    None
 }
 
 // What a number is worth; 0 where it is none.
 fn worth_of(s: &[u8]) -> i64
     ensures { result ≡ worth (spelled s.now) }
 {
-    let Spelled::Is(z) = number(s) else {
+    let Some(z) = number(s) else {
         return 0;
     };
     z
@@ -152,7 +151,7 @@ fn second(code: i64, s: &[u8], words: &mut [i64]) -> Found
         End::Long => Found::Unreadable,
         End::Unended => Found::Short,
         End::At(j) => {
-            let Count::Are(n) = args_line(&s[0..j]) else {
+            let Some(n) = args_line(&s[0..j]) else {
                 return Found::Unreadable;
             };
             if words.len() <= n {
@@ -172,7 +171,7 @@ pub fn pair(window: &[u8], words: &mut [i64]) -> Found
         End::Long => Found::Unreadable,
         End::Unended => Found::Short,
         End::At(i) => {
-            let Spelled::Is(code) = command_line(&window[0..i]) else {
+            let Some(code) = command_line(&window[0..i]) else {
                 return Found::Unreadable;
             };
             second(code, &window[i + 1..], words)

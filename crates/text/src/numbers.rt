@@ -2,8 +2,6 @@
 ghost use Rattle.std.specs.Prelude.{◌≡◌};
 ghost use Rattle.spelling.specs.Numbers.{digits_from, natural, within, plus, minus, spelled};
 
-use spelling::numbers::{Digits, Spelled};
-
 fn wide(b: u8) -> u64
     ensures { result ≡ b }
 {
@@ -11,7 +9,7 @@ fn wide(b: u8) -> u64
 }
 
 // The digits from the first on. Nothing over 2^63 is told, so that the sum never wraps.
-fn digits_of(s: &[u8]) -> Digits
+fn digits_of(s: &[u8]) -> Option<u64>
     ensures { result ≡ within (digits_from 0 s.now) }
 {
     let mut v: u64 = 0;
@@ -19,73 +17,73 @@ fn digits_of(s: &[u8]) -> Digits
     while i < s.len() {
         let b = wide(s[i]);
         if b < 48 {
-            return Digits::None;
+            return None;
         }
         if 57 < b {
-            return Digits::None;
+            return None;
         }
         if 922337203685477580 < v {
-            return Digits::None;
+            return None;
         }
         v = v * 10 + (b - 48);
         i += 1;
     }
     if 9223372036854775808 < v {
-        return Digits::None;
+        return None;
     }
-    Digits::Worth(v)
+    Some(v)
 }
 
 // At least one digit, and a 0 leads nothing but itself.
-pub fn magnitude(s: &[u8]) -> Digits
+pub fn magnitude(s: &[u8]) -> Option<u64>
     ensures { result ≡ within (natural s.now) }
 {
     if s.len() == 0 {
-        return Digits::None;
+        return None;
     }
     if s[0] == 48 {
         if s.len() == 1 {
-            return Digits::Worth(0);
+            return Some(0);
         }
-        return Digits::None;
+        return None;
     }
     digits_of(s)
 }
 
-fn positive(d: Digits) -> Spelled
+fn positive(d: Option<u64>) -> Option<i64>
     ensures { result ≡ plus d }
 {
-    let Digits::Worth(n) = d else {
-        return Spelled::Not;
+    let Some(n) = d else {
+        return None;
     };
     if 9223372036854775807 < n {
-        return Spelled::Not;
+        return None;
     }
-    Spelled::Is(n as i64)
+    Some(n as i64)
 }
 
 // -n is -1 - (n - 1), which no i64 is too small for.
-fn negative(d: Digits) -> Spelled
+fn negative(d: Option<u64>) -> Option<i64>
     ensures { result ≡ minus d }
 {
-    let Digits::Worth(n) = d else {
-        return Spelled::Not;
+    let Some(n) = d else {
+        return None;
     };
     if n == 0 {
-        return Spelled::Not;
+        return None;
     }
     if 9223372036854775808 < n {
-        return Spelled::Not;
+        return None;
     }
-    Spelled::Is(-1 - ((n - 1) as i64))
+    Some(-1 - ((n - 1) as i64))
 }
 
 // A strict decimal.
-pub fn number(s: &[u8]) -> Spelled
+pub fn number(s: &[u8]) -> Option<i64>
     ensures { result ≡ spelled s.now }
 {
     if s.len() == 0 {
-        return Spelled::Not;
+        return None;
     }
     if s[0] == 45 {
         return negative(magnitude(&s[1..]));

@@ -17,7 +17,6 @@ use formula::scans::{MOST_HEIGHT, height, read_cells};
 use primitive::rows::{COMPUTED, COUNT, LEVEL, NODE, USED};
 use primitive::words;
 use refusals::asks::{asks_of, cells_from};
-use trees::cells::Number;
 
 pub const MOST_OWNER_DEPTH: u64 = 16;
 
@@ -36,7 +35,7 @@ pub fn bad_formula(nodes: &[u64], words: &[i64]) -> bool
 fn too_deep(nodes: &[u64], owner: i64) -> bool
     ensures { result ≡ ltb most_owner_depth (depth_under (λ n. node nodes.now n LEVEL) (owner_of owner)) }
 {
-    let Number::Is(o) = natural(owner) else {
+    let Some(o) = natural(owner) else {
         return false;
     };
     words::get(nodes, NODE, o, LEVEL) >= MOST_OWNER_DEPTH
@@ -60,7 +59,7 @@ fn wanted_slots(formula: &[i64], owner: i64) -> u64
     ensures { result ≡ min top (2 * read_cells formula.now + owned_link (owner_of owner)) }
 {
     let reads = read_cells(formula);
-    let Number::Is(_) = natural(owner) else {
+    let Some(_) = natural(owner) else {
         return plus(reads, reads);
     };
     plus(plus(reads, reads), 1)

@@ -13,6 +13,6 @@ pub returns : goal.returns
 unfolding cell_lower
 returns c = rw (
   ← c.name.ensures,
-  c.in-Is.is,
+  c.in-Some.is,
   ← c.lower.ensures,
 )

@@ -15,4 +15,4 @@ returns-in_default c =
 pub returns : goal.returns
 returns c =
     let k : to_z w64 (of_z w64 c.args.k) ≡ c.args.k = to_z-of_z {w = w64} (search rules) in
-    node_is c.args.k (rw k at c.natural.ensures) _ c.in-Is.is
+    node_is c.args.k (rw k at c.natural.ensures) _ c.in-Some.is

@@ -15,10 +15,10 @@ returns-in_default c =
 pub overflow_add-result : goal.overflow_add-result
 overflow_add-result c =
     let k : to_z w64 (of_z w64 c.args.k) ≡ c.args.k = to_z-of_z {w = w64} (search rules) in
-    let low = owner_low c.args.k (rw k at c.natural.ensures) c.ranges.k _ c.in-Is.is in
+    let low = owner_low c.args.k (rw k at c.natural.ensures) c.ranges.k _ c.in-Some.is in
     search rules
 
 pub returns : goal.returns
 returns c =
     let k : to_z w64 (of_z w64 c.args.k) ≡ c.args.k = to_z-of_z {w = w64} (search rules) in
-    owner_is_word c.args.k (rw k at c.natural.ensures) _ c.in-Is.is
+    owner_is_word c.args.k (rw k at c.natural.ensures) _ c.in-Some.is

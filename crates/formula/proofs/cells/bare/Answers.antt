@@ -7,7 +7,7 @@ pub returns-in_default : goal.returns-in_default
 returns-in_default c = bare_none _ (rw (to_z-of_z c.ranges.operand) at c.natural.ensures) _ c.in_default.is
 
 pub returns-then-n-eq0 : goal.returns-then-n-eq0
-returns-then-n-eq0 c = bare_is _ (rw (to_z-of_z c.ranges.operand) at c.natural.ensures) _ _ c.in-Is.is c.if-n-eq0.true
+returns-then-n-eq0 c = bare_is _ (rw (to_z-of_z c.ranges.operand) at c.natural.ensures) _ _ c.in-Some.is c.if-n-eq0.true
 
 pub returns-else-n-eq0 : goal.returns-else-n-eq0
-returns-else-n-eq0 c = bare_not _ (rw (to_z-of_z c.ranges.operand) at c.natural.ensures) _ _ c.in-Is.is c.if-n-eq0.false
+returns-else-n-eq0 c = bare_not _ (rw (to_z-of_z c.ranges.operand) at c.natural.ensures) _ _ c.in-Some.is c.if-n-eq0.false

@@ -7,4 +7,4 @@ pub returns-in_default : goal.returns-in_default
 returns-in_default c = read_none _ (rw (to_z-of_z c.ranges.operand) at c.natural.ensures) c.in_default.is
 
 pub returns : goal.returns
-returns c = read_is _ (rw (to_z-of_z c.ranges.operand) at c.natural.ensures) _ c.in-Is.is
+returns c = read_is _ (rw (to_z-of_z c.ranges.operand) at c.natural.ensures) _ c.in-Some.is

@@ -7,4 +7,4 @@ pub returns-in_default : goal.returns-in_default
 returns-in_default c = known_none _ _ c.name.ensures c.in_default.is
 
 pub returns : goal.returns
-returns c = c.readable.ensures ∙ known_some _ _ _ c.name.ensures c.in-Is.is
+returns c = c.readable.ensures ∙ known_some _ _ _ c.name.ensures c.in-Some.is

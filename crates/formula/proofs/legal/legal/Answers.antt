@@ -12,4 +12,4 @@ pub returns-in_default : goal.returns-in_default
 returns-in_default c = legal_none _ _ c.if-cells-ne0.false c.if-count-gt-MOST_CELLS.false c.one.ensures c.in_default.is
 
 pub returns : goal.returns
-returns c = legal_ends _ _ _ c.if-cells-ne0.false c.if-count-gt-MOST_CELLS.false c.one.ensures c.in-Is.is
+returns c = legal_ends _ _ _ c.if-cells-ne0.false c.if-count-gt-MOST_CELLS.false c.one.ensures c.in-Some.is

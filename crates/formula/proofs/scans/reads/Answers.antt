@@ -6,4 +6,4 @@ pub returns-in_default : goal.returns-in_default
 returns-in_default c = reads_none _ c.name.ensures c.in_default.is
 
 pub returns : goal.returns
-returns c = reads_one _ c.name.ensures c.in-Is.is
+returns c = reads_one _ c.name.ensures c.in-Some.is

@@ -6,7 +6,7 @@ pub returns-in_default : goal.returns-in_default
 returns-in_default c = taller_none _ _ _ c.name.ensures c.in_default.is
 
 pub returns-then-level-most : goal.returns-then-level-most
-returns-then-level-most c = taller_more _ _ _ _ _ c.name.ensures c.in-Is.is c.get-level.ensures c.if-level-most.true
+returns-then-level-most c = taller_more _ _ _ _ _ c.name.ensures c.in-Some.is c.get-level.ensures c.if-level-most.true
 
 pub returns-else-level-most : goal.returns-else-level-most
-returns-else-level-most c = taller_less _ _ _ _ _ c.name.ensures c.in-Is.is c.get-level.ensures c.if-level-most.false
+returns-else-level-most c = taller_less _ _ _ _ _ c.name.ensures c.in-Some.is c.get-level.ensures c.if-level-most.false

@@ -19,7 +19,7 @@ loop-n-smaller c = omega arith
 
 pub loop-n-preserved : goal.loop-n-preserved
 loop-n-preserved c =
-    c.loop-n.invariant ∙ walks_more _ _ _ _ _ _ c.loop-n-test.true (rw (← c.get-head.ensures, ← c.get-tail.ensures) (sym c.walk.ensures ∙ c.in-Left.is))
+    c.loop-n.invariant ∙ walks_more _ _ _ _ _ _ c.loop-n-test.true (rw (← c.get-head.ensures, ← c.get-tail.ensures) (sym c.walk.ensures ∙ c.in-Some.is))
 
 pub returns : goal.returns
 returns c =

@@ -8,4 +8,4 @@ pub returns-in_default : goal.returns-in_default
 returns-in_default c = cell_none _ _ _ _ (c.name.ensures ∙ ap name_of c.cell_at.ensures) c.in_default.is
 
 pub returns : goal.returns
-returns c = cell_some _ _ _ _ _ _ (c.name.ensures ∙ ap name_of c.cell_at.ensures) c.in-Is.is c.put.ensures
+returns c = cell_some _ _ _ _ _ _ (c.name.ensures ∙ ap name_of c.cell_at.ensures) c.in-Some.is c.put.ensures

@@ -54,7 +54,7 @@ unfolding queued_in blank
 returns c = rw (
   ← c.count_due-waiting.ensures,
   ← c.scan.ensures,
-  c.in-Left.is,
+  c.in-Some.is,
   ← c.at-depth.ensures,
   ← c.at-len.ensures,
   le-leb _ _ c.if-depth-gt-MOST_DEPTH.false,

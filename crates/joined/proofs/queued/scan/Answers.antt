@@ -28,7 +28,7 @@ loop-i-smaller c = omega arith
 
 pub loop-i-preserved : goal.loop-i-preserved
 loop-i-preserved c =
-    (c.loop-i.invariant.0 ∙ scan_turn _ _ _ _ _ c.entry-e.ensures (c.length-n.result - c.loop-i.i) (c.length-n.result - (c.loop-i.i + 1)) _ _ _ _ (omega (arith, c.loop-i-test.true)) (sym c.may_wait.ensures ∙ c.if-not-may_wait.false) (sym c.at.ensures ∙ c.if-at-ne0.false) c.lives-live.ensures c.pay.ensures c.in-Left.is c.put.ensures (omega arith), c.put.auto.t ∙ c.loop-i.invariant.1)
+    (c.loop-i.invariant.0 ∙ scan_turn _ _ _ _ _ c.entry-e.ensures (c.length-n.result - c.loop-i.i) (c.length-n.result - (c.loop-i.i + 1)) _ _ _ _ (omega (arith, c.loop-i-test.true)) (sym c.may_wait.ensures ∙ c.if-not-may_wait.false) (sym c.at.ensures ∙ c.if-at-ne0.false) c.lives-live.ensures c.pay.ensures c.in-Some.is c.put.ensures (omega arith), c.put.auto.t ∙ c.loop-i.invariant.1)
 
 pub returns : goal.returns
 returns c =

@@ -13,17 +13,17 @@ pub loop-w-init : goal.loop-w-init
 loop-w-init c = refl
 
 pub loop-w-smaller : goal.loop-w-smaller
-loop-w-smaller c = pop_less _ _ c.pop.ensures c.in-Top.is
+loop-w-smaller c = pop_less _ _ c.pop.ensures c.in-Some.is
 
 pub loop-w-preserved : goal.loop-w-preserved
 loop-w-preserved c =
-    sym (back_none _ _ _ _ _ c.pop.ensures c.in-Top.is c.open-in-Top.ensures c.in_default-open-2.is) ∙ c.loop-w.invariant
+    sym (back_none _ _ _ _ _ c.pop.ensures c.in-Some.is c.open-in-Some.ensures c.in_default-open-2.is) ∙ c.loop-w.invariant
 
-pub top-preserved-in-Top : goal.top-preserved-in-Top
-top-preserved-in-Top c =
+pub top-preserved-in-Some : goal.top-preserved-in-Some
+top-preserved-in-Some c =
     let v = c.top in
     let e = turn_flat _ _ _ _ c.top-test.true c.get-sub.ensures c.reach-flags.ensures.bits_value c.reach-flags.ensures.nodes_after c.below.ensures c.in_default.is c.open.ensures ∙ along_none _ _ _ _ c.in_default-open.is ∙ sym c.loop-w.invariant in
-    let d = back_slot _ _ _ _ _ c.pop.ensures c.in-Top.is c.open-in-Top.ensures c.in-At-open-2.is c.get-next.ensures in
+    let d = back_slot _ _ _ _ _ c.pop.ensures c.in-Some.is c.open-in-Some.ensures c.in-At-open-2.is c.get-next.ensures in
     record {
       long = c.reach-flags.auto.nodes ∙ v.invariant.long;
       whole = v.invariant.whole;

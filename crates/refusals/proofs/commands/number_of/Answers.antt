@@ -23,11 +23,11 @@ returns-then-takes_words c =
     let a = c.args in
     let v : to_z w64 (of_z w64 c.signed_at.result) ≡ c.signed_at.result = to_z-of_z {w = w64} (search rules) in
     let f : c.natural.result ≡ natural_of (get_or a.words.now 0 (pos 0)) = rw (v, c.signed_at.ensures) at c.natural.ensures in
-    code_right _ f _ c.in-Is.is c.takes_words.ensures c.if-takes_words.true
+    code_right _ f _ c.in-Some.is c.takes_words.ensures c.if-takes_words.true
 
 pub returns : goal.returns
 returns c =
     let a = c.args in
     let v : to_z w64 (of_z w64 c.signed_at.result) ≡ c.signed_at.result = to_z-of_z {w = w64} (search rules) in
     let f : c.natural.result ≡ natural_of (get_or a.words.now 0 (pos 0)) = rw (v, c.signed_at.ensures) at c.natural.ensures in
-    code_wrong _ f _ c.in-Is.is c.takes_words.ensures c.if-takes_words.false
+    code_wrong _ f _ c.in-Some.is c.takes_words.ensures c.if-takes_words.false

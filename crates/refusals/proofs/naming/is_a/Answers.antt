@@ -13,10 +13,10 @@ pub returns-then-k-at : goal.returns-then-k-at
 returns-then-k-at c =
     let at = c.at in
     let a = c.args in
-    a_past a.nodes.now a.n (rw (to_z-of_z c.ranges.n) at c.natural.ensures) (taken a.t) _ c.in-Is.is at.ensures c.if-k-at.true
+    a_past a.nodes.now a.n (rw (to_z-of_z c.ranges.n) at c.natural.ensures) (taken a.t) _ c.in-Some.is at.ensures c.if-k-at.true
 
 pub returns : goal.returns
 returns c =
     let at = c.at in
     let a = c.args in
-    a_kind a.nodes.now a.n (rw (to_z-of_z c.ranges.n) at c.natural.ensures) (taken a.t) _ c.in-Is.is at.ensures c.if-k-at.false c.get.ensures c.takes_kind.ensures
+    a_kind a.nodes.now a.n (rw (to_z-of_z c.ranges.n) at c.natural.ensures) (taken a.t) _ c.in-Some.is at.ensures c.if-k-at.false c.get.ensures c.takes_kind.ensures

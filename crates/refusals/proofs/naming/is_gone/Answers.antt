@@ -7,4 +7,4 @@ pub returns-in_default : goal.returns-in_default
 returns-in_default c = gone_none c.args.nodes.now c.args.n (rw (to_z-of_z c.ranges.n) at c.natural.ensures) c.in_default.is
 
 pub returns : goal.returns
-returns c = gone_is c.args.nodes.now c.args.n (rw (to_z-of_z c.ranges.n) at c.natural.ensures) _ c.in-Is.is c.get.ensures
+returns c = gone_is c.args.nodes.now c.args.n (rw (to_z-of_z c.ranges.n) at c.natural.ensures) _ c.in-Some.is c.get.ensures

@@ -18,9 +18,9 @@ returns-in_default c =
 pub returns-then-words-n : goal.returns-then-words-n
 returns-then-words-n c =
     let p : to_z w64 (of_z w64 c.signed_at.result) ≡ c.signed_at.result = to_z-of_z {w = w64} (search rules) in
-    is_inside _ c.signed_at.ensures (rw p at c.natural.ensures) c.if-n-eq0.false _ c.in-Is.is c.if-words-n.true
+    is_inside _ c.signed_at.ensures (rw p at c.natural.ensures) c.if-n-eq0.false _ c.in-Some.is c.if-words-n.true
 
 pub returns : goal.returns
 returns c =
     let p : to_z w64 (of_z w64 c.signed_at.result) ≡ c.signed_at.result = to_z-of_z {w = w64} (search rules) in
-    is_beyond _ c.signed_at.ensures (rw p at c.natural.ensures) c.if-n-eq0.false _ c.in-Is.is c.if-words-n.false
+    is_beyond _ c.signed_at.ensures (rw p at c.natural.ensures) c.if-n-eq0.false _ c.in-Some.is c.if-words-n.false

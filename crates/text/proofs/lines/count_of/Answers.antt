@@ -22,7 +22,7 @@ pub returns-in_default : goal.returns-in_default
 returns-in_default c = count_fault c.args.s.now c.loop-at.at c.first-i.ensures _ c.number.ensures c.in_default.is ∙ sym c.loop-at.invariant.0
 
 pub returns-then-rest-i : goal.returns-then-rest-i
-returns-then-rest-i c = count_last c.args.s.now c.loop-at.at c.first-i.ensures _ c.number.ensures _ c.in-Is.is c.if-rest-i.true ∙ sym c.loop-at.invariant.0
+returns-then-rest-i c = count_last c.args.s.now c.loop-at.at c.first-i.ensures _ c.number.ensures _ c.in-Some.is c.if-rest-i.true ∙ sym c.loop-at.invariant.0
 
 pub overflow_add-at : goal.overflow_add-at
 overflow_add-at c = let h = next_inside c.args.s.now c.loop-at.at c.first-i.ensures c.if-rest-i.false in omega arith
@@ -34,7 +34,7 @@ pub loop-at-smaller : goal.loop-at-smaller
 loop-at-smaller c = let h = next_inside c.args.s.now c.loop-at.at c.first-i.ensures c.if-rest-i.false in omega arith
 
 pub loop-at-preserved : goal.loop-at-preserved
-loop-at-preserved c = let h = next_inside c.args.s.now c.loop-at.at c.first-i.ensures c.if-rest-i.false in (c.loop-at.invariant.0 ∙ count_next c.args.s.now c.loop-at.at c.first-i.ensures _ c.number.ensures _ c.in-Is.is c.if-rest-i.false, omega arith, omega arith)
+loop-at-preserved c = let h = next_inside c.args.s.now c.loop-at.at c.first-i.ensures c.if-rest-i.false in (c.loop-at.invariant.0 ∙ count_next c.args.s.now c.loop-at.at c.first-i.ensures _ c.number.ensures _ c.in-Some.is c.if-rest-i.false, omega arith, omega arith)
 
 pub returns : goal.returns
 returns c = count_end_lem _ _ _ c.loop-at-test.false ∙ sym c.loop-at.invariant.0

@@ -35,5 +35,5 @@ returns-in-Long c = pair_long c.args.window.now c.args.words.now c.line_end.ensu
 pub returns-in-Unended : goal.returns-in-Unended
 returns-in-Unended c = pair_open c.args.window.now c.args.words.now c.line_end.ensures c.in-Unended.is
 
-pub returns-in-Is : goal.returns-in-Is
-returns-in-Is c = let p : to_z w64 (of_z w64 c.in-Is.code) ≡ c.in-Is.code = to_z-of_z {w = w64} (search rules) in pair_second c.args.window.now c.args.words.now c.line_end.ensures _ c.in-At.is (c.command_line.ensures ∙ ap command_line (front_is c.args.window.now c.in-At.i)) _ c.in-Is.is (rw (p, rest_is c.args.window.now (c.in-At.i + 1), add-one c.in-At.i) at c.second.ensures)
+pub returns-in-Some : goal.returns-in-Some
+returns-in-Some c = let p : to_z w64 (of_z w64 c.in-Some.code) ≡ c.in-Some.code = to_z-of_z {w = w64} (search rules) in pair_second c.args.window.now c.args.words.now c.line_end.ensures _ c.in-At.is (c.command_line.ensures ∙ ap command_line (front_is c.args.window.now c.in-At.i)) _ c.in-Some.is (rw (p, rest_is c.args.window.now (c.in-At.i + 1), add-one c.in-At.i) at c.second.ensures)

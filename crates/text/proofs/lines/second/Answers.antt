@@ -19,7 +19,7 @@ pub returns-in_default : goal.returns-in_default
 returns-in_default c = second_fault c.args.code c.args.s.now c.args.words.now c.line_end.ensures _ c.in-At.is (c.args_line.ensures ∙ ap (λ (l : List ℕ). count_from 0 (args_line l)) (front_is c.args.s.now c.in-At.j)) c.in_default.is
 
 pub returns-then-words-n : goal.returns-then-words-n
-returns-then-words-n c = second_full c.args.code c.args.s.now c.args.words.now c.line_end.ensures _ c.in-At.is (c.args_line.ensures ∙ ap (λ (l : List ℕ). count_from 0 (args_line l)) (front_is c.args.s.now c.in-At.j)) _ c.in-Are.is c.if-words-n.true
+returns-then-words-n c = second_full c.args.code c.args.s.now c.args.words.now c.line_end.ensures _ c.in-At.is (c.args_line.ensures ∙ ap (λ (l : List ℕ). count_from 0 (args_line l)) (front_is c.args.s.now c.in-At.j)) _ c.in-Some.is c.if-words-n.true
 
 pub slice_bounds-store_pair-end : goal.slice_bounds-store_pair-end
 slice_bounds-store_pair-end c = let h : c.in-At.j < length c.args.s.now = at_inside c.args.s.now (ends c.args.s.now) _ (sym c.line_end.ensures ∙ c.in-At.is) in search rules
@@ -37,4 +37,4 @@ pub returns-in-Unended : goal.returns-in-Unended
 returns-in-Unended c = second_open c.args.code c.args.s.now c.args.words.now c.line_end.ensures c.in-Unended.is
 
 pub returns-else-words-n : goal.returns-else-words-n
-returns-else-words-n c = let h : c.in-At.j < length c.args.s.now = at_inside c.args.s.now (ends c.args.s.now) _ (sym c.line_end.ensures ∙ c.in-At.is) in second_pair c.args.code c.args.s.now c.args.words.now c.line_end.ensures _ c.in-At.is (c.args_line.ensures ∙ ap (λ (l : List ℕ). count_from 0 (args_line l)) (front_is c.args.s.now c.in-At.j)) _ c.in-Are.is c.if-words-n.false (rw (to_z-of_z c.ranges.code, front_is c.args.s.now c.in-At.j) at c.store_pair.ensures) h
+returns-else-words-n c = let h : c.in-At.j < length c.args.s.now = at_inside c.args.s.now (ends c.args.s.now) _ (sym c.line_end.ensures ∙ c.in-At.is) in second_pair c.args.code c.args.s.now c.args.words.now c.line_end.ensures _ c.in-At.is (c.args_line.ensures ∙ ap (λ (l : List ℕ). count_from 0 (args_line l)) (front_is c.args.s.now c.in-At.j)) _ c.in-Some.is c.if-words-n.false (rw (to_z-of_z c.ranges.code, front_is c.args.s.now c.in-At.j) at c.store_pair.ensures) h

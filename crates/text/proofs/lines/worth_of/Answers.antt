@@ -12,4 +12,4 @@ pub returns-in_default : goal.returns-in_default
 returns-in_default c = worth_not _ c.number.ensures c.in_default.is
 
 pub returns : goal.returns
-returns c = let p : to_z w64 (of_z w64 c.in-Is.z) ≡ c.in-Is.z = to_z-of_z {w = w64} (search rules) in rw p (worth_is _ _ c.number.ensures c.in-Is.is)
+returns c = let p : to_z w64 (of_z w64 c.in-Some.z) ≡ c.in-Some.z = to_z-of_z {w = w64} (search rules) in rw p (worth_is _ _ c.number.ensures c.in-Some.is)

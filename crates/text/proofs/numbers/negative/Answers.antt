@@ -12,13 +12,13 @@ unfolding minus
 returns-in_default c = rw c.in_default.is
 
 pub returns-then-n-eq0 : goal.returns-then-n-eq0
-returns-then-n-eq0 c = rw c.in-Worth.is (minus_zero _ c.if-n-eq0.true)
+returns-then-n-eq0 c = rw c.in-Some.is (minus_zero _ c.if-n-eq0.true)
 
 pub returns-then-n-gt9223372036854775808 : goal.returns-then-n-gt9223372036854775808
-returns-then-n-gt9223372036854775808 c = rw c.in-Worth.is (minus_over _ c.if-n-gt9223372036854775808.true)
+returns-then-n-gt9223372036854775808 c = rw c.in-Some.is (minus_over _ c.if-n-gt9223372036854775808.true)
 
 pub overflow_sub-result-2 : goal.overflow_sub-result-2
-overflow_sub-result-2 c = minus_fits (c.in-Worth.n - 1) (omega arith)
+overflow_sub-result-2 c = minus_fits (c.in-Some.n - 1) (omega arith)
 
 pub returns : goal.returns
-returns c = rw (c.in-Worth.is, to_z-of_z (minus_fits (c.in-Worth.n - 1) (omega arith)), minus_word (c.in-Worth.n - 1) (omega arith)) (minus_is _ c.if-n-eq0.false c.if-n-gt9223372036854775808.false)
+returns c = rw (c.in-Some.is, to_z-of_z (minus_fits (c.in-Some.n - 1) (omega arith)), minus_word (c.in-Some.n - 1) (omega arith)) (minus_is _ c.if-n-eq0.false c.if-n-gt9223372036854775808.false)

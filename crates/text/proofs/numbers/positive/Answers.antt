@@ -12,7 +12,7 @@ unfolding plus
 returns-in_default c = rw c.in_default.is
 
 pub returns-then-n-gt9223372036854775807 : goal.returns-then-n-gt9223372036854775807
-returns-then-n-gt9223372036854775807 c = rw c.in-Worth.is (plus_over _ c.if-n-gt9223372036854775807.true)
+returns-then-n-gt9223372036854775807 c = rw c.in-Some.is (plus_over _ c.if-n-gt9223372036854775807.true)
 
 pub returns : goal.returns
-returns c = rw (c.in-Worth.is, to_z_pos w64 {n = c.in-Worth.n} (omega arith)) (plus_is _ c.if-n-gt9223372036854775807.false)
+returns c = rw (c.in-Some.is, to_z_pos w64 {n = c.in-Some.n} (omega arith)) (plus_is _ c.if-n-gt9223372036854775807.false)

@@ -7,4 +7,4 @@ pub returns-in_default : goal.returns-in_default
 returns-in_default c = slots_none c.args.owner (rw (to_z-of_z c.ranges.owner) at c.natural.ensures) _ c.in_default.is c.read_cells-reads.ensures c.plus.ensures
 
 pub returns : goal.returns
-returns c = slots_some c.args.owner (rw (to_z-of_z c.ranges.owner) at c.natural.ensures) _ _ c.in-Is.is c.read_cells-reads.ensures c.plus-2.ensures c.plus-3.ensures
+returns c = slots_some c.args.owner (rw (to_z-of_z c.ranges.owner) at c.natural.ensures) _ _ c.in-Some.is c.read_cells-reads.ensures c.plus-2.ensures c.plus-3.ensures
