@@ -48,6 +48,5 @@ pub fn evaluate(
     ensures { got result (state nodes.new links.new values.new) ≡ evaluated_for cells.now (state nodes.old links.old values.old) n }
 {
     let at = words::get(nodes, NODE, n, START);
-    let worked = ring::evaluate(nodes, links, values, cells, n, at, MOST_NESTING);
-    worked.value
+    ring::evaluate(nodes, links, values, cells, n, at, MOST_NESTING).value
 }

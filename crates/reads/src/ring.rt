@@ -63,7 +63,7 @@ fn nothing(at: u64) -> Worked
 }
 
 // What the expression at a cell is worth to node n. Nothing nests deeper than `depth`, and no cell past a bad one is asked for.
-#[cycle(check_dependency_check_dirty_check_pending_dirty_by_evaluate_evaluate_choose_evaluate_first_evaluate_two_read_for_refresh_refresh_computed_refresh_pending_renew_settle_update_update_computed)]
+#[cycle(reading)]
 pub fn evaluate(
     nodes: &mut [u64],
     links: &mut [u64],
@@ -78,18 +78,16 @@ pub fn evaluate(
     if depth == 0 {
         return nothing(at);
     }
-    let cell = cell_at(cells, at);
-    match cell {
+    match cell_at(cells, at) {
         Cell::Constant(k) => Worked {
             value: Value::of(k),
             next: at + 1,
         },
         Cell::Read(m) => {
-            let next = at + 1;
             let value = read_for(nodes, links, values, cells, n, m);
             Worked {
-                value: value,
-                next: next,
+                value,
+                next: at + 1,
             }
         }
         Cell::Two(op) => evaluate_two(nodes, links, values, cells, n, at + 1, depth - 1, op),
@@ -99,7 +97,7 @@ pub fn evaluate(
 }
 
 // The read of node m by node n, which then depends on it. A node that is not of lower rank is not read.
-#[cycle(check_dependency_check_dirty_check_pending_dirty_by_evaluate_evaluate_choose_evaluate_first_evaluate_two_read_for_refresh_refresh_computed_refresh_pending_renew_settle_update_update_computed)]
+#[cycle(reading)]
 fn read_for(
     nodes: &mut [u64],
     links: &mut [u64],
@@ -113,13 +111,14 @@ fn read_for(
     if rank(m) < rank(n) {
         refresh(nodes, links, values, cells, m);
         link(nodes, links, m, n, cycle(links));
-        return current(values, m);
+        current(values, m)
+    } else {
+        Value::of(0)
     }
-    Value::of(0)
 }
 
 // Arguments go left to right.
-#[cycle(check_dependency_check_dirty_check_pending_dirty_by_evaluate_evaluate_choose_evaluate_first_evaluate_two_read_for_refresh_refresh_computed_refresh_pending_renew_settle_update_update_computed)]
+#[cycle(reading)]
 fn evaluate_two(
     nodes: &mut [u64],
     links: &mut [u64],
@@ -141,7 +140,7 @@ fn evaluate_two(
 }
 
 // Only the branch that is taken is worked out.
-#[cycle(check_dependency_check_dirty_check_pending_dirty_by_evaluate_evaluate_choose_evaluate_first_evaluate_two_read_for_refresh_refresh_computed_refresh_pending_renew_settle_update_update_computed)]
+#[cycle(reading)]
 fn evaluate_choose(
     nodes: &mut [u64],
     links: &mut [u64],
@@ -154,21 +153,18 @@ fn evaluate_choose(
     ensures { Enough cells.now n (λ b. choose_by cells.now (evaluated_by cells.now b n depth) (state nodes.old links.old values.old) at) (evaluated result.value result.next (state nodes.new links.new values.new)) }
 {
     let c = evaluate(nodes, links, values, cells, n, at, depth);
-    let condition = c.value;
-    let past = c.next;
-    if condition.is_zero() {
-        return evaluate(nodes, links, values, cells, n, end(cells, past), depth);
+    if c.value.is_zero() {
+        return evaluate(nodes, links, values, cells, n, end(cells, c.next), depth);
     }
-    let a = evaluate(nodes, links, values, cells, n, past, depth);
-    let value = a.value;
+    let a = evaluate(nodes, links, values, cells, n, c.next, depth);
     Worked {
-        value: value,
+        value: a.value,
         next: end(cells, a.next),
     }
 }
 
 // The first evaluation of a computed.
-#[cycle(check_dependency_check_dirty_check_pending_dirty_by_evaluate_evaluate_choose_evaluate_first_evaluate_two_read_for_refresh_refresh_computed_refresh_pending_renew_settle_update_update_computed)]
+#[cycle(reading)]
 fn evaluate_first(nodes: &mut [u64], links: &mut [u64], values: &mut [i64], cells: &[i64], n: u64)
     ensures { Enough cells.now n (λ b. first_by cells.now b (state nodes.old links.old values.old) n) (state nodes.new links.new values.new) }
 {
@@ -179,7 +175,7 @@ fn evaluate_first(nodes: &mut [u64], links: &mut [u64], values: &mut [i64], cell
 }
 
 // A computed is evaluated anew. The answer is whether its value changed.
-#[cycle(check_dependency_check_dirty_check_pending_dirty_by_evaluate_evaluate_choose_evaluate_first_evaluate_two_read_for_refresh_refresh_computed_refresh_pending_renew_settle_update_update_computed)]
+#[cycle(reading)]
 fn update_computed(
     nodes: &mut [u64],
     links: &mut [u64],
@@ -196,34 +192,34 @@ fn update_computed(
 }
 
 // Only signals and computeds are updated; the Rust panics at any other node.
-#[cycle(check_dependency_check_dirty_check_pending_dirty_by_evaluate_evaluate_choose_evaluate_first_evaluate_two_read_for_refresh_refresh_computed_refresh_pending_renew_settle_update_update_computed)]
+#[cycle(reading)]
 fn update(nodes: &mut [u64], links: &mut [u64], values: &mut [i64], cells: &[i64], n: u64) -> bool
     ensures { Enough cells.now n (λ b. updated_by cells.now b (state nodes.old links.old values.old) n) (told result (state nodes.new links.new values.new)) }
 {
     let kind = words::get(nodes, NODE, n, KIND);
     if kind == SIGNAL {
-        return update_signal(nodes, values, n);
+        update_signal(nodes, values, n)
+    } else if kind == COMPUTED {
+        update_computed(nodes, links, values, cells, n)
+    } else {
+        false
     }
-    if kind == COMPUTED {
-        return update_computed(nodes, links, values, cells, n);
-    }
-    false
 }
 
 // Updates a dependency. A change wakes its other subscribers.
-#[cycle(check_dependency_check_dirty_check_pending_dirty_by_evaluate_evaluate_choose_evaluate_first_evaluate_two_read_for_refresh_refresh_computed_refresh_pending_renew_settle_update_update_computed)]
+#[cycle(reading)]
 fn settle(nodes: &mut [u64], links: &mut [u64], values: &mut [i64], cells: &[i64], m: u64) -> bool
     ensures { Enough cells.now m (λ b. settled_by cells.now b (state nodes.old links.old values.old) m) (told result (state nodes.new links.new values.new)) }
 {
-    if update(nodes, links, values, cells, m) {
+    let changed = update(nodes, links, values, cells, m);
+    if changed {
         wake_others(nodes, links, m);
-        return true;
     }
-    false
+    changed
 }
 
 // A pending dependency is updated where a dependency of its own has changed; else it is not pending any more.
-#[cycle(check_dependency_check_dirty_check_pending_dirty_by_evaluate_evaluate_choose_evaluate_first_evaluate_two_read_for_refresh_refresh_computed_refresh_pending_renew_settle_update_update_computed)]
+#[cycle(reading)]
 fn check_pending(
     nodes: &mut [u64],
     links: &mut [u64],
@@ -234,14 +230,15 @@ fn check_pending(
     ensures { Below cells.now m (λ b. pending_by cells.now b (state nodes.old links.old values.old) m) (told result (state nodes.new links.new values.new)) }
 {
     if check_dirty(nodes, links, values, cells, m) {
-        return settle(nodes, links, values, cells, m);
+        settle(nodes, links, values, cells, m)
+    } else {
+        set_flags(nodes, m, flags(nodes, m).clear(Flags::PENDING));
+        false
     }
-    set_flags(nodes, m, flags(nodes, m).clear(Flags::PENDING));
-    false
 }
 
 // Whether the dependency m has changed.
-#[cycle(check_dependency_check_dirty_check_pending_dirty_by_evaluate_evaluate_choose_evaluate_first_evaluate_two_read_for_refresh_refresh_computed_refresh_pending_renew_settle_update_update_computed)]
+#[cycle(reading)]
 fn check_dependency(
     nodes: &mut [u64],
     links: &mut [u64],
@@ -253,16 +250,16 @@ fn check_dependency(
 {
     let flags = flags(nodes, m);
     if has_all(flags, STALE) {
-        return settle(nodes, links, values, cells, m);
+        settle(nodes, links, values, cells, m)
+    } else if has_all(flags, UNSURE) {
+        check_pending(nodes, links, values, cells, m)
+    } else {
+        false
     }
-    if has_all(flags, UNSURE) {
-        return check_pending(nodes, links, values, cells, m);
-    }
-    false
 }
 
 // Whether node n is dirty already, or by its dependency m.
-#[cycle(check_dependency_check_dirty_check_pending_dirty_by_evaluate_evaluate_choose_evaluate_first_evaluate_two_read_for_refresh_refresh_computed_refresh_pending_renew_settle_update_update_computed)]
+#[cycle(reading)]
 fn dirty_by(
     nodes: &mut [u64],
     links: &mut [u64],
@@ -273,17 +270,12 @@ fn dirty_by(
 ) -> bool
     ensures { Enough cells.now n (λ b. dirty_by cells.now b (state nodes.old links.old values.old) n m) (told result (state nodes.new links.new values.new)) }
 {
-    if has(flags(nodes, n), Flags::DIRTY) {
-        return true;
-    }
-    if rank(m) < rank(n) {
-        return check_dependency(nodes, links, values, cells, m);
-    }
-    false
+    has(flags(nodes, n), Flags::DIRTY)
+        || rank(m) < rank(n) && check_dependency(nodes, links, values, cells, m)
 }
 
 // Whether a dependency of node n has changed: they are asked in order, up to the first that has. The words of a link are read before a call that may change the tables.
-#[cycle(check_dependency_check_dirty_check_pending_dirty_by_evaluate_evaluate_choose_evaluate_first_evaluate_two_read_for_refresh_refresh_computed_refresh_pending_renew_settle_update_update_computed)]
+#[cycle(reading)]
 pub fn check_dirty(
     nodes: &mut [u64],
     links: &mut [u64],
@@ -294,9 +286,7 @@ pub fn check_dirty(
     ensures { Enough cells.now n (λ b. checked_by cells.now b (state nodes.old links.old values.old) n) (told result (state nodes.new links.new values.new)) }
 {
     let mut link = words::get(nodes, NODE, n, DEPS);
-    let mut left = links.len() / 8;
-    while 0 < left {
-        left -= 1;
+    for _ in 0..links.len() / 8 {
         let Slot::At(s) = slots::open(link) else {
             return false;
         };
@@ -310,18 +300,17 @@ pub fn check_dirty(
 }
 
 // A computed is evaluated anew. A change wakes its subscribers.
-#[cycle(check_dependency_check_dirty_check_pending_dirty_by_evaluate_evaluate_choose_evaluate_first_evaluate_two_read_for_refresh_refresh_computed_refresh_pending_renew_settle_update_update_computed)]
+#[cycle(reading)]
 fn renew(nodes: &mut [u64], links: &mut [u64], values: &mut [i64], cells: &[i64], n: u64)
     ensures { Enough cells.now n (λ b. renewed_by cells.now b (state nodes.old links.old values.old) n) (state nodes.new links.new values.new) }
 {
     if update_computed(nodes, links, values, cells, n) {
         wake(nodes, links, n);
-        return;
     }
 }
 
 // A pending computed of these flags is evaluated anew where a dependency has changed; else it is not pending any more.
-#[cycle(check_dependency_check_dirty_check_pending_dirty_by_evaluate_evaluate_choose_evaluate_first_evaluate_two_read_for_refresh_refresh_computed_refresh_pending_renew_settle_update_update_computed)]
+#[cycle(reading)]
 fn refresh_pending(
     nodes: &mut [u64],
     links: &mut [u64],
@@ -334,43 +323,35 @@ fn refresh_pending(
 {
     if check_dirty(nodes, links, values, cells, n) {
         renew(nodes, links, values, cells, n);
-        return;
+    } else {
+        set_flags(nodes, n, flags.clear(Flags::PENDING));
     }
-    set_flags(nodes, n, flags.clear(Flags::PENDING));
 }
 
 // The first half of computed_oper.
-#[cycle(check_dependency_check_dirty_check_pending_dirty_by_evaluate_evaluate_choose_evaluate_first_evaluate_two_read_for_refresh_refresh_computed_refresh_pending_renew_settle_update_update_computed)]
+#[cycle(reading)]
 fn refresh_computed(nodes: &mut [u64], links: &mut [u64], values: &mut [i64], cells: &[i64], n: u64)
     ensures { Enough cells.now n (λ b. refreshed_computed_by cells.now b (state nodes.old links.old values.old) n) (state nodes.new links.new values.new) }
 {
     let flags = flags(nodes, n);
     if has(flags, Flags::DIRTY) {
         renew(nodes, links, values, cells, n);
-        return;
-    }
-    if has(flags, Flags::PENDING) {
+    } else if has(flags, Flags::PENDING) {
         refresh_pending(nodes, links, values, cells, n, flags);
-        return;
-    }
-    if flags.is_zero() {
+    } else if flags.is_zero() {
         evaluate_first(nodes, links, values, cells, n);
-        return;
     }
 }
 
 // Brings the value of a signal or computed up to date.
-#[cycle(check_dependency_check_dirty_check_pending_dirty_by_evaluate_evaluate_choose_evaluate_first_evaluate_two_read_for_refresh_refresh_computed_refresh_pending_renew_settle_update_update_computed)]
+#[cycle(reading)]
 pub fn refresh(nodes: &mut [u64], links: &mut [u64], values: &mut [i64], cells: &[i64], n: u64)
     ensures { Enough cells.now n (λ b. refreshed_by cells.now b (state nodes.old links.old values.old) n) (state nodes.new links.new values.new) }
 {
     let kind = words::get(nodes, NODE, n, KIND);
     if kind == SIGNAL {
         refresh_signal(nodes, links, values, n);
-        return;
-    }
-    if kind == COMPUTED {
+    } else if kind == COMPUTED {
         refresh_computed(nodes, links, values, cells, n);
-        return;
     }
 }

@@ -23,11 +23,7 @@ pub fn update_signal(nodes: &mut [u64], values: &mut [i64], n: u64) -> bool
 pub fn refresh_signal(nodes: &mut [u64], links: &[u64], values: &mut [i64], n: u64)
     ensures { state nodes.new links.now values.new ≡ refreshed_signal (state nodes.old links.now values.old) n }
 {
-    if has(flags(nodes, n), Flags::DIRTY) {
-        if update_signal(nodes, values, n) {
-            wake(nodes, links, n);
-            return;
-        }
-        return;
+    if has(flags(nodes, n), Flags::DIRTY) && update_signal(nodes, values, n) {
+        wake(nodes, links, n);
     }
 }

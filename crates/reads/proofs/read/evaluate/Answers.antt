@@ -6,4 +6,4 @@ use Rattle.reads.proofs.read.evaluate.Goals as goal
 
 pub returns : goal.returns
 unfolding evaluated_for
-returns c = rw (← c.get-at.ensures, ← c.evaluate-worked.ensures (rank_of c.args.n) (omega arith))
+returns c = rw (← c.get-at.ensures, ← c.evaluate.ensures (rank_of c.args.n) (omega arith))

@@ -3,8 +3,8 @@ use mathlib.Core.Path.{◌≡◌}
 use lib.ListN.{length}
 use Rattle.reading.specs.Tables.{state, rank_of}
 use Rattle.reading.specs.Ring.{deps_by, ring_n}
-use Prim.Native.Nat.{ℕ, ◌+◌, ◌*◌, ◌≤◌}
-use Rattle.reads.proofs.ring.+check_dependency_check_dirty_check_pending_dirty_by_evaluate_evaluate_choose_evaluate_first_evaluate_two_read_for_refresh_refresh_computed_refresh_pending_renew_settle_update_update_computed.Given as goal
+use Prim.Native.Nat.{ℕ, ◌+◌, ◌-◌, ◌*◌, ◌≤◌}
+use Rattle.reads.proofs.ring.+reading.Given as goal
 
 abbrev pub decreases-check_dependency : goal.decreases-check_dependency
 decreases-check_dependency l = rank_of l.m * 64 + 43
@@ -54,13 +54,10 @@ decreases-update l = rank_of l.n * 64 + 34
 abbrev pub decreases-update_computed : goal.decreases-update_computed
 decreases-update_computed l = rank_of l.n * 64 + 33
 
-abbrev pub invariant-check_dirty-loop-left : goal.invariant-check_dirty-loop-left
-invariant-check_dirty-loop-left l =
+abbrev pub invariant-check_dirty-loop : goal.invariant-check_dirty-loop
+invariant-check_dirty-loop l =
     record {
       lens : (length l.nodes ≡ length l.initial.nodes) × (length l.links ≡ length l.initial.links) × (length l.values ≡ length l.initial.values);
       same : (k : ℕ) → rank_of l.n ≤ k
-          → deps_by l.cells (ring_n l.cells k) l.n l.left (state l.nodes l.links l.values) l.link ≡ deps_by l.cells (ring_n l.cells k) l.n l.initial.left (state l.initial.nodes l.initial.links l.initial.values) l.initial.link;
+          → deps_by l.cells (ring_n l.cells k) l.n (l.end - l.counter) (state l.nodes l.links l.values) l.link ≡ deps_by l.cells (ring_n l.cells k) l.n l.end (state l.initial.nodes l.initial.links l.initial.values) l.initial.link;
     }
-
-abbrev pub decreases-check_dirty-loop-left : goal.decreases-check_dirty-loop-left
-decreases-check_dirty-loop-left l = l.left
