@@ -3,7 +3,8 @@ ghost use Rattle.std.specs.Prelude.{◌≡◌, ◌+◌, ◌*◌, min};
 ghost use Rattle.counting.specs.Counts.{top, owned_link, reserve_of, reserve_in, effect_of, live_effects_in};
 
 use crate::room::counted;
-use primitive::rows::{COMPUTED, EFFECT, GONE, KIND, NODE, OWNER, READS, SIGNAL};
+use primitive::kinds::Kind;
+use primitive::rows::{EFFECT, GONE, KIND, NODE, OWNER, READS};
 use primitive::words;
 
 const TOP: u64 = 18446744073709551615;
@@ -22,25 +23,23 @@ fn owned(owner: u64) -> u64
 }
 
 // Twice the read cells: on a rerun old links stay until the purge. A gone effect or scope counts nothing.
+#[tactic(auto, unfolding(counting::specs::Counts::reserve_of))]
 pub fn reserve_of(nodes: &[u64], n: u64) -> u64
     ensures { result ≡ min top (reserve_of nodes.now n) }
 {
-    let kind = words::get(nodes, NODE, n, KIND);
-    if kind == SIGNAL {
-        return 0;
-    }
     let reads = words::get(nodes, NODE, n, READS);
-    if kind == COMPUTED {
-        return plus(reads, reads);
-    }
-    if words::get(nodes, NODE, n, GONE) != 0 {
-        return 0;
-    }
+    let gone = words::get(nodes, NODE, n, GONE) != 0;
     let link = owned(words::get(nodes, NODE, n, OWNER));
-    if kind == EFFECT {
-        return plus(plus(reads, reads), link);
+    match Kind::of_word(words::get(nodes, NODE, n, KIND)) {
+        Some(Kind::Signal) => 0,
+        Some(Kind::Computed) => plus(reads, reads),
+        Some(Kind::Effect) => if gone {
+            0
+        } else {
+            plus(plus(reads, reads), link)
+        },
+        Some(Kind::Scope) | None => if gone { 0 } else { link },
     }
-    link
 }
 
 pub fn reserve(nodes: &[u64]) -> u64

@@ -1,6 +1,10 @@
 -- The promise of each public function of `primitive` has one answer. Assumes nothing.
 use mathlib.Core.Path.{refl, sym, ◌∙◌}
 use Rattle.tight.specs.OneAnswer.{OneAnswer}
+use Rattle.primitive.proofs.kinds.Kind.of_word.Kinds as kinds-of_word-kinds
+use Rattle.primitive.proofs.kinds.Kind.of_word.Reads as kinds-of_word
+use Rattle.primitive.proofs.kinds.Kind.word.Kinds as kinds-word-kinds
+use Rattle.primitive.proofs.kinds.Kind.word.Reads as kinds-word
 use Rattle.primitive.proofs.slots.open.Kinds as slots-open-kinds
 use Rattle.primitive.proofs.slots.open.Reads as slots-open
 use Rattle.primitive.proofs.words.at.Kinds as words-at-kinds
@@ -13,6 +17,12 @@ use Rattle.primitive.proofs.words.get.Kinds as words-get-kinds
 use Rattle.primitive.proofs.words.get.Reads as words-get
 use Rattle.primitive.proofs.words.store.Kinds as words-store-kinds
 use Rattle.primitive.proofs.words.store.Reads as words-store
+
+pub one_kinds_of_word : OneAnswer kinds-of_word-kinds.ps kinds-of_word-kinds.r kinds-of_word.Learnt
+one_kinds_of_word κs a x y v w p q = (p.0 ∙ sym q.0, refl)
+
+pub one_kinds_word : OneAnswer kinds-word-kinds.ps kinds-word-kinds.r kinds-word.Learnt
+one_kinds_word κs a x y v w p q = (p ∙ sym q, refl)
 
 pub one_slots_open : OneAnswer slots-open-kinds.ps slots-open-kinds.r slots-open.Learnt
 one_slots_open κs a x y v w p q = (p ∙ sym q, refl)
