@@ -2,12 +2,12 @@
 
 // Many scripts in one stream, as oracle/README.md sets it out: each is followed by a line `%`, or by a line `%cut` where the newline before that
 // line is no part of the script.
-ghost use Rattle.std.specs.Prelude.{◌≡◌, ◌<◌, ◌≤◌, ◌==◌, length};
+ghost use Rattle.std.specs.Prelude.{◌≡◌, ◌<◌, ◌≤◌, ◌==◌, length, MatchOption};
 ghost use Rattle.std.specs.List.{position};
 ghost use Rattle.packs.specs.Packs.{line_of, mark_of, unended_in, pair_in, second_in, first_in, open_in, rest_in, line_in, decided};
 
 // Whether the line that a window begins with follows a script.
-#[derive(Clone, Copy)]
+#[derive(Clone, Copy, PartialEq, Eq, Debug)]
 pub enum Mark {
     // Not to be told before more is read.
     Unknown,
@@ -17,7 +17,7 @@ pub enum Mark {
 }
 
 // Where a run stands in a script: it goes on, or what is left of it is passed over, in a line or between lines.
-#[derive(Clone, Copy)]
+#[derive(Clone, Copy, PartialEq, Eq, Debug)]
 pub enum Place {
     Open,
     InLine,
@@ -25,7 +25,7 @@ pub enum Place {
 }
 
 // What to do with a window.
-#[derive(Clone, Copy)]
+#[derive(Clone, Copy, PartialEq, Eq, Debug)]
 pub enum Act {
     Read,
     // A turn on so many bytes, and whether the script ends there.
@@ -38,160 +38,137 @@ pub enum Act {
     Stop,
 }
 
+// What was read and not yet used, and whether no more will come.
+#[derive(Clone, Copy)]
+struct Window<'a> {
+    bytes: &'a [u8],
+    over: bool,
+}
+
 // The place of the first newline.
 fn newline(w: &[u8]) -> Option<usize>
     ensures { result ≡ position (λ b. b == 10) w.now }
 {
-    w.iter().position(|b| *b == 10)
+    w.iter().position(|b| *b == b'\n')
 }
 
-// Behind the first newline, or 0 where there is none.
-fn line(w: &[u8]) -> usize
+// The place behind the first newline.
+fn line(w: &[u8]) -> Option<usize>
     ensures exact { result ≡ line_of w.now }
-    ensures within { result ≤ length w.now }
+    ensures within { MatchOption result (Unit {0}) (λ n. (0 < n) × (n ≤ length w.now)) }
 {
-    match newline(w) {
-        Some(i) => i + 1,
-        None => 0,
-    }
+    let i = newline(w)?;
+    Some(i + 1)
 }
 
 fn marked(w: &[u8]) -> Mark
     ensures { result ≡ mark_of w.now }
 {
-    if w.len() == 0 {
-        return Mark::Unknown;
+    match w {
+        [b'%', b'\n', ..] => Mark::Plain,
+        [b'%', _, _, _, b'\n', ..] => Mark::Cut,
+        [] | [b'%'] | [b'%', _] | [b'%', _, _] | [b'%', _, _, _] => Mark::Unknown,
+        _ => Mark::Other,
     }
-    if w[0] != 37 {
-        return Mark::Other;
-    }
-    if w.len() < 2 {
-        return Mark::Unknown;
-    }
-    if w[1] == 10 {
-        return Mark::Plain;
-    }
-    if w.len() < 5 {
-        return Mark::Unknown;
-    }
-    if w[4] == 10 {
-        return Mark::Cut;
-    }
-    Mark::Other
 }
 
 // Two lines of 4,096 bytes and their newlines.
 const MOST_BYTES: usize = 8194;
 
-fn unended(w: &[u8], over: bool) -> Act
-    ensures { result ≡ unended_in w.now over }
-{
-    if over {
-        return Act::Turn(w.len(), true);
-    }
-    if w.len() > MOST_BYTES {
-        return Act::Turn(w.len(), false);
-    }
-    Act::Read
-}
-
-fn pair(over: bool, two: usize, mark: Mark) -> Act
-    requires { 0 < two }
-    ensures { result ≡ pair_in over two mark }
-{
-    match mark {
-        Mark::Unknown => {
-            if over {
-                return Act::Turn(two, false);
-            }
+impl Window<'_> {
+    fn unended(self) -> Act
+        ensures { result ≡ unended_in self.entry.bytes.now self.entry.over }
+    {
+        if self.over {
+            Act::Turn(self.bytes.len(), true)
+        } else if self.bytes.len() > MOST_BYTES {
+            Act::Turn(self.bytes.len(), false)
+        } else {
             Act::Read
         }
-        Mark::Other => Act::Turn(two, false),
-        Mark::Plain => Act::Turn(two, false),
-        Mark::Cut => Act::Turn(two - 1, true),
     }
-}
 
-fn second(w: &[u8], over: bool, one: usize) -> Act
-    requires { one ≤ length w.now }
-    ensures { result ≡ second_in w.now over one }
-{
-    let more = line(&w[one..]);
-    if more == 0 {
-        return unended(w, over);
-    }
-    let two = one + more;
-    pair(over, two, marked(&w[two..]))
-}
-
-fn first(w: &[u8], over: bool, one: usize, mark: Mark) -> Act
-    requires one_in_bounds { one ≤ length w.now }
-    requires one_nonzero { 0 < one }
-    ensures { result ≡ first_in w.now over one mark }
-{
-    match mark {
-        Mark::Unknown => unended(w, over),
-        Mark::Other => second(w, over, one),
-        Mark::Plain => Act::Turn(one, true),
-        Mark::Cut => Act::Turn(one - 1, true),
-    }
-}
-
-fn script(w: &[u8], over: bool, mark: Mark) -> Act
-    ensures { result ≡ open_in w.now over mark }
-{
-    match mark {
-        Mark::Unknown => unended(w, over),
-        Mark::Other => {
-            let one = line(w);
-            if one == 0 {
-                return unended(w, over);
-            }
-            first(w, over, one, marked(&w[one..]))
+    fn pair(self, two: usize, mark: Mark) -> Act
+        requires { 0 < two }
+        ensures { result ≡ pair_in self.entry.over two mark }
+    {
+        match mark {
+            Mark::Unknown if !self.over => Act::Read,
+            Mark::Cut => Act::Turn(two - 1, true),
+            Mark::Unknown | Mark::Other | Mark::Plain => Act::Turn(two, false),
         }
-        Mark::Plain => Act::Script(2),
-        Mark::Cut => Act::Script(5),
     }
-}
 
-fn rest(w: &[u8], over: bool) -> Act
-    ensures { result ≡ rest_in w.now over }
-{
-    let n = line(w);
-    if n != 0 {
-        return Act::Past(n);
+    fn second(self, one: usize) -> Act
+        requires { one ≤ length self.bytes.now }
+        ensures { result ≡ second_in self.entry.bytes.now self.entry.over one }
+    {
+        let Some(more) = line(&self.bytes[one..]) else {
+            return self.unended();
+        };
+        let two = one + more;
+        self.pair(two, marked(&self.bytes[two..]))
     }
-    if over {
-        return Act::Stop;
-    }
-    if w.len() == 0 {
-        return Act::Read;
-    }
-    Act::Within(w.len())
-}
 
-fn between(over: bool, mark: Mark) -> Act
-    ensures { result ≡ line_in over mark }
-{
-    match mark {
-        Mark::Unknown => {
-            if over {
-                return Act::Stop;
-            }
-            Act::Read
+    fn first(self, one: usize, mark: Mark) -> Act
+        requires one_in_bounds { one ≤ length self.bytes.now }
+        requires one_nonzero { 0 < one }
+        ensures { result ≡ first_in self.entry.bytes.now self.entry.over one mark }
+    {
+        match mark {
+            Mark::Unknown => self.unended(),
+            Mark::Other => self.second(one),
+            Mark::Plain => Act::Turn(one, true),
+            Mark::Cut => Act::Turn(one - 1, true),
         }
-        Mark::Other => Act::Within(0),
-        Mark::Plain => Act::Script(2),
-        Mark::Cut => Act::Script(5),
+    }
+
+    fn script(self, mark: Mark) -> Act
+        ensures { result ≡ open_in self.entry.bytes.now self.entry.over mark }
+    {
+        match mark {
+            Mark::Unknown => self.unended(),
+            Mark::Other => match line(self.bytes) {
+                Some(one) => self.first(one, marked(&self.bytes[one..])),
+                None => self.unended(),
+            },
+            Mark::Plain => Act::Script(2),
+            Mark::Cut => Act::Script(5),
+        }
+    }
+
+    fn rest(self) -> Act
+        ensures { result ≡ rest_in self.entry.bytes.now self.entry.over }
+    {
+        match line(self.bytes) {
+            Some(n) => Act::Past(n),
+            None if self.over => Act::Stop,
+            None if self.bytes.is_empty() => Act::Read,
+            None => Act::Within(self.bytes.len()),
+        }
+    }
+
+    fn between(self, mark: Mark) -> Act
+        ensures { result ≡ line_in self.entry.over mark }
+    {
+        match mark {
+            Mark::Unknown if self.over => Act::Stop,
+            Mark::Unknown => Act::Read,
+            Mark::Other => Act::Within(0),
+            Mark::Plain => Act::Script(2),
+            Mark::Cut => Act::Script(5),
+        }
     }
 }
 
+#[tactic(auto, unfolding(crate::specs::Packs::decided))]
 pub fn decide(w: &[u8], over: bool, place: Place) -> Act
     ensures { result ≡ decided w.now over place }
 {
+    let window = Window { bytes: w, over };
     match place {
-        Place::Open => script(w, over, marked(w)),
-        Place::InLine => rest(w, over),
-        Place::AtLine => between(over, marked(w)),
+        Place::Open => window.script(marked(w)),
+        Place::InLine => window.rest(),
+        Place::AtLine => window.between(marked(w)),
     }
 }
