@@ -1,13 +1,13 @@
 // What a command asks of the tables, told in one way for all ten.
-ghost use Rattle.std.specs.Prelude.{◌≡◌, pos};
+ghost use Rattle.std.specs.Prelude.{◌≡◌};
 ghost use Rattle.meaning.specs.Words.{command_of};
-ghost use Rattle.refusing.specs.Commands.{brief, command_by};
+ghost use Rattle.refusing.specs.Commands.{brief};
 ghost use Rattle.refusing.specs.Asked.{asked, names_one, makes_one, cells_from};
 
-use crate::commands::number_of;
+use crate::commands::command_of;
 use primitive::rows::{COMPUTED, EFFECT, SCOPE, SIGNAL};
-use primitive::words;
 use refusing::asks::{Asks, Takes};
+use refusing::commands::Command;
 
 // The -1 that means no owner.
 const NOBODY: i64 = -1;
@@ -40,27 +40,22 @@ fn makes(kind: u64, owner: i64, from: usize) -> Asks
     }
 }
 
-// By the number and the first word: set and add take signals; read takes signals and computeds; dispose takes effects and scopes.
-fn told_by(k: u64, a: i64) -> Asks
-    ensures { result ≡ asked (command_by k a (pos 0)) }
-{
-    match k {
-        1 => makes(SIGNAL, NOBODY, 0),
-        2 => makes(COMPUTED, NOBODY, 1),
-        3 => makes(EFFECT, a, 2),
-        4 => makes(SCOPE, a, 0),
-        5 => names(Takes::Signals, a, false),
-        6 => names(Takes::Signals, a, false),
-        7 => names(Takes::Readable, a, false),
-        8 => names(Takes::Owners, a, true),
-        _ => makes(0, NOBODY, 0),
-    }
-}
-
+// Set and add take signals; read takes signals and computeds; dispose takes effects and scopes.
+#[tactic(auto, unfolding(refusing::specs::Asked::asked))]
 pub fn asks_of(words: &[i64]) -> Asks
     ensures { result ≡ asked (brief (command_of words.now)) }
 {
-    told_by(number_of(words), words::signed_at(words, 1))
+    match command_of(words) {
+        Command::Signal(_) => makes(SIGNAL, NOBODY, 0),
+        Command::Computed => makes(COMPUTED, NOBODY, 1),
+        Command::Effect(o) => makes(EFFECT, o, 2),
+        Command::Scope(o) => makes(SCOPE, o, 0),
+        Command::Set(n, _) => names(Takes::Signals, n, false),
+        Command::Add(n, _) => names(Takes::Signals, n, false),
+        Command::Read(n) => names(Takes::Readable, n, false),
+        Command::Dispose(n) => names(Takes::Owners, n, true),
+        Command::Start | Command::End | Command::Unknown => makes(0, NOBODY, 0),
+    }
 }
 
 // Where the cells of the formula begin in the words; at their end if there is none.

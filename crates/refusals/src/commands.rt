@@ -1,7 +1,7 @@
 // The words of a command, taken apart. Nothing else looks at them, but for the cells of a formula.
 ghost use Rattle.std.specs.Prelude.{◌≡◌};
 ghost use Rattle.meaning.specs.Words.{command_of};
-ghost use Rattle.refusing.specs.Commands.{number_of, takes_words, command_by, brief};
+ghost use Rattle.refusing.specs.Commands.{takes_words, command_by, brief};
 
 use formula::cells::natural;
 use primitive::words;
@@ -26,19 +26,6 @@ fn takes_words(code: u64, n: usize) -> bool
     }
 }
 
-// The number of the command, 0 if it is unknown.
-pub fn number_of(words: &[i64]) -> u64
-    ensures { result ≡ number_of (brief (command_of words.now)) }
-{
-    let Some(code) = natural(words::signed_at(words, 0)) else {
-        return 0;
-    };
-    if takes_words(code, words.len()) {
-        return code;
-    }
-    0
-}
-
 // The command of this number, with the two words after its code.
 fn command_by(k: u64, a: i64, b: i64) -> Command
     ensures { result ≡ command_by k a b }
@@ -61,9 +48,12 @@ fn command_by(k: u64, a: i64, b: i64) -> Command
 pub fn command_of(words: &[i64]) -> Command
     ensures { result ≡ brief (command_of words.now) }
 {
-    command_by(
-        number_of(words),
-        words::signed_at(words, 1),
-        words::signed_at(words, 2),
-    )
+    match natural(words::signed_at(words, 0)) {
+        Some(code) if takes_words(code, words.len()) => command_by(
+            code,
+            words::signed_at(words, 1),
+            words::signed_at(words, 2),
+        ),
+        _ => Command::Unknown,
+    }
 }

@@ -7,17 +7,18 @@ ghost use Rattle.refusing.specs.Sight.{kind_of, nodes_alone};
 ghost use Rattle.refusing.specs.Asked.{taken, node_asked, wrong_named};
 
 use crate::asks::asks_of;
-use crate::commands::number_of;
+use crate::commands::command_of;
 use formula::cells::natural;
 use primitive::rows::{COMPUTED, COUNT, GONE, KIND, NODE, SIGNAL};
 use primitive::words;
 use refusing::asks::Takes;
+use refusing::commands::Command;
 
 // 2: unknown command code or wrong word count.
 pub fn unknown(words: &[i64]) -> bool
     ensures { result ≡ unknown (command_of words.now) }
 {
-    number_of(words) == 0
+    matches!(command_of(words), Command::Unknown)
 }
 
 // Whether a node of this kind word is taken.

@@ -30,6 +30,10 @@ module _ (nodes : List ℕ) where
   depth_by ws e f g =
       g ∙ ap₂ barred_at e f ∙ depth_told (brief (command_of ws)) ws ∙ ap (λ m. on m (wrong_depth (nodes_alone nodes))) (sym (told_is ws))
 
+  pub depth_so : (ws : List ℤ) {b : Command} {d : ℕ} → b ≡ brief (command_of ws) → d ≡ get_or nodes 9 0
+      → on (command_of ws) (wrong_depth (nodes_alone nodes)) ≡ barred_at (number_of b) d
+  depth_so ws e f = sym (depth_by ws (ap number_of e) f refl)
+
 -- ---- 9
 module _ (nodes : List ℕ) (d : ℕ) {e : ℕ} (depth : e ≡ get_or nodes 9 0) where
   pub flush_now : {r : ℕ} → e ≡ d → r ≡ live_effects_in nodes → r ≡ flush_rows (nodes_alone nodes) d
@@ -85,12 +89,6 @@ module _ (nodes : List ℕ) where
   unfolding wanted
   wanted_most k =
       either_most (eqb k 3) (omega arith) (either_most (eqb k 5) (flush_most 0) (either_most (eqb k 6) (flush_most 0) (either_most (eqb k 10) (flush_most 1) (omega arith))))
-
-  pub ample_so : {n : ℕ} (rows : ℕ) → n ≡ counted_in nodes → n ≡ 0 → leb 1 rows ≡ leb (max 1 (counted_in nodes)) rows
-  ample_so rows e z = let q : 1 ≡ max 1 (counted_in nodes) = omega arith in ap (λ (k : ℕ). leb k rows) q
-
-  pub ample_many : {n : ℕ} (rows : ℕ) → n ≡ counted_in nodes → (n ≡ 0 → ⊥) → leb n rows ≡ leb (max 1 (counted_in nodes)) rows
-  ample_many {n} rows e z = let q : n ≡ max 1 (counted_in nodes) = omega (arith, e, z) in ap (λ (k : ℕ). leb k rows) q
 
   pub not_few : (rows : ℕ) (ws : List ℤ) {b : Bool} → b ≡ leb (max 1 (counted_in nodes)) rows → b ≡ true → false ≡ on (command_of ws) (few_rows (sight_in nodes [] [] rows))
   not_few rows ws e t =

@@ -209,6 +209,15 @@ told_is ws = (kept ws).same
 pub numbered_is : (ws : List ℤ) → command_by (number_of (brief (command_of ws))) (get_or ws 1 (pos 0)) (get_or ws 2 (pos 0)) ≡ brief (command_of ws)
 numbered_is ws = (kept ws).numbered
 
+-- by the number, where there is one
+module _ (ws : List ℤ) {k : ℕ} (number : k ≡ number_of (brief (command_of ws))) where
+  pub by_number : command_by k (get_or ws 1 (pos 0)) (get_or ws 2 (pos 0)) ≡ brief (command_of ws)
+  by_number = ap (λ (k : ℕ). command_by k (get_or ws 1 (pos 0)) (get_or ws 2 (pos 0))) number ∙ numbered_is ws
+
+  pub none_by : k ≡ 0 → Unknown ≡ brief (command_of ws)
+  unfolding command_by
+  none_by z = rw z at by_number
+
 pub from_inside : (ws : List ℤ) → cells_from ws ≤ length ws
 unfolding cells_from
 from_inside ws = (kept ws).inside

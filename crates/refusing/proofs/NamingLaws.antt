@@ -20,6 +20,7 @@ use Rattle.meaning.specs.State.{Kind, signal, computed, effect, scope, readable}
 use Rattle.meaning.specs.Words.{command_of}
 use Rattle.meaning.specs.Refusals.{unknown, a_signal, an_owner, is_a, wrong_owner, is_gone}
 use Rattle.refusing.specs.declared.commands.Command.{Command}
+use Rattle.refusing.specs.declared.commands.Command.TheVariants.{Unknown}
 use Rattle.refusing.specs.Sight.{either, kind_of, nodes_alone}
 use Rattle.refusing.specs.Commands.{number_of, brief, told}
 use Rattle.refusing.proofs.CommandLaws.{each, told_is}
@@ -30,8 +31,21 @@ told_number : (b : Command) (ws : List ℤ) → eqb (number_of b) 0 ≡ unknown 
 unfolding unknown told number_of
 told_number b ws = each (λ (b : Command). eqb (number_of b) 0 ≡ unknown (told b ws)) (λ k. refl) refl (λ o. refl) (λ o. refl) (λ n k. refl) (λ n k. refl) (λ n. refl) (λ n. refl) refl refl refl b
 
-pub unknown_by : (ws : List ℤ) {k : ℕ} → k ≡ number_of (brief (command_of ws)) → eqb k 0 ≡ unknown (command_of ws)
-unknown_by ws e = ap (λ (x : ℕ). eqb x 0) e ∙ told_number (brief (command_of ws)) ws ∙ ap unknown (sym (told_is ws))
+module _ (ws : List ℤ) {b : Command} (is : b ≡ brief (command_of ws)) where
+  unknown_by : eqb (number_of b) 0 ≡ unknown (command_of ws)
+  unknown_by = ap (λ (b : Command). eqb (number_of b) 0) is ∙ told_number (brief (command_of ws)) ws ∙ ap unknown (sym (told_is ws))
+
+  pub unknown_so : b ≡ Unknown → true ≡ unknown (command_of ws)
+  unfolding number_of
+  unknown_so e = rw e at unknown_by
+
+  pub known_so : (b ≡ Unknown → ⊥) → false ≡ unknown (command_of ws)
+  unfolding number_of
+  known_so f = sym (go b f) ∙ unknown_by
+    where
+      go : (b : Command) → (b ≡ Unknown → ⊥) → eqb (number_of b) 0 ≡ false
+      go = each (λ (b : Command). (b ≡ Unknown → ⊥) → eqb (number_of b) 0 ≡ false)
+          (λ k f. refl) (λ f. refl) (λ o f. refl) (λ o f. refl) (λ n k f. refl) (λ n k f. refl) (λ n f. refl) (λ n f. refl) (λ f. refl) (λ f. refl) (λ f. absurd (f refl))
 
 -- ---- kinds
 pub kind_signal : (w : ℕ) → eqb w SIGNAL ≡ a_signal (kind_of w)

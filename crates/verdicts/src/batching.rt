@@ -4,24 +4,27 @@ ghost use Rattle.counting.specs.Counts.{counted_in};
 ghost use Rattle.meaning.specs.Words.{command_of};
 ghost use Rattle.meaning.specs.Refusals.{on, flush_rows, wrong_depth, few_rows};
 ghost use Rattle.refusing.specs.Sight.{nodes_alone, sight_in};
+ghost use Rattle.refusing.specs.Commands.{number_of};
 ghost use Rattle.refusing.specs.Asked.{wanted};
 
 use counts::reserve::live_effects;
 use counts::room::counted;
 use primitive::rows::DEPTH;
 use primitive::words;
-use refusals::commands::number_of;
+use refusals::commands::command_of;
+use refusing::commands::Command;
 
 pub const MOST_DEPTH: u64 = 64;
 
 // 8: end at depth 0, or start at depth 64.
+#[tactic(auto, using(refusing::proofs::BatchingLaws::depth_so), unfolding(refusing::specs::Asked::barred_at, refusing::specs::Commands::number_of))]
 pub fn wrong_depth(nodes: &[u64], words: &[i64]) -> bool
     ensures { result ≡ on (command_of words.now) (wrong_depth (nodes_alone nodes.now)) }
 {
     let depth = words::at(nodes, DEPTH);
-    match number_of(words) {
-        9 => MOST_DEPTH <= depth,
-        10 => depth == 0,
+    match command_of(words) {
+        Command::Start => MOST_DEPTH <= depth,
+        Command::End => depth == 0,
         _ => false,
     }
 }
@@ -30,21 +33,18 @@ pub fn wrong_depth(nodes: &[u64], words: &[i64]) -> bool
 fn flush_rows(nodes: &[u64], depth: u64) -> u64
     ensures { result ≡ flush_rows (nodes_alone nodes.now) depth }
 {
-    if words::at(nodes, DEPTH) == depth {
-        return live_effects(nodes);
-    }
-    0
+    if words::at(nodes, DEPTH) == depth { live_effects(nodes) } else { 0 }
 }
 
 // A new effect wants one row; a set or add at depth 0, or an end at depth 1, wants as many as effects are live.
-fn wanted_rows(nodes: &[u64], k: u64) -> u64
-    ensures { result ≡ wanted (nodes_alone nodes.now) k }
+#[tactic(auto, unfolding(refusing::specs::Asked::wanted, refusing::specs::Commands::number_of))]
+fn wanted_rows(nodes: &[u64], command: Command) -> u64
+    ensures { result ≡ wanted (nodes_alone nodes.now) (number_of command) }
 {
-    match k {
-        3 => 1,
-        5 => flush_rows(nodes, 0),
-        6 => flush_rows(nodes, 0),
-        10 => flush_rows(nodes, 1),
+    match command {
+        Command::Effect(_) => 1,
+        Command::Set(_, _) | Command::Add(_, _) => flush_rows(nodes, 0),
+        Command::End => flush_rows(nodes, 1),
         _ => 0,
     }
 }
@@ -53,19 +53,12 @@ fn wanted_rows(nodes: &[u64], k: u64) -> u64
 fn ample(nodes: &[u64], rows: u64) -> bool
     ensures { result ≡ leb (max 1 (counted_in nodes.now)) rows }
 {
-    let n = counted(nodes);
-    if n == 0 {
-        return 1 <= rows;
-    }
-    n <= rows
+    counted(nodes).max(1) <= rows
 }
 
 // 9: too few log rows. Live effects are counted only for a log that might be short.
 pub fn few_rows(nodes: &[u64], rows: u64, words: &[i64]) -> bool
     ensures { result ≡ on (command_of words.now) (few_rows (sight_in nodes.now [] [] rows)) }
 {
-    if ample(nodes, rows) {
-        return false;
-    }
-    rows < wanted_rows(nodes, number_of(words))
+    !ample(nodes, rows) && rows < wanted_rows(nodes, command_of(words))
 }
