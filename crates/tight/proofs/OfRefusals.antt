@@ -5,8 +5,6 @@ use Rattle.refusals.proofs.asks.asks_of.Kinds as asks-asks-of-kinds
 use Rattle.refusals.proofs.asks.asks_of.Reads as asks-asks-of
 use Rattle.refusals.proofs.asks.cells_from.Kinds as asks-cells-from-kinds
 use Rattle.refusals.proofs.asks.cells_from.Reads as asks-cells-from
-use Rattle.refusals.proofs.commands.number_of.Kinds as commands-number-of-kinds
-use Rattle.refusals.proofs.commands.number_of.Reads as commands-number-of
 use Rattle.refusals.proofs.commands.command_of.Kinds as commands-command-of-kinds
 use Rattle.refusals.proofs.commands.command_of.Reads as commands-command-of
 use Rattle.refusals.proofs.naming.unknown.Kinds as naming-unknown-kinds
@@ -21,9 +19,6 @@ one_asks_asks_of κs a x y v w p q = (p ∙ sym q, refl)
 
 pub one_asks_cells_from : OneAnswer asks-cells-from-kinds.ps asks-cells-from-kinds.r asks-cells-from.Learnt
 one_asks_cells_from κs a x y v w p q = (p ∙ sym q, refl)
-
-pub one_commands_number_of : OneAnswer commands-number-of-kinds.ps commands-number-of-kinds.r commands-number-of.Learnt
-one_commands_number_of κs a x y v w p q = (p ∙ sym q, refl)
 
 pub one_commands_command_of : OneAnswer commands-command-of-kinds.ps commands-command-of-kinds.r commands-command-of.Learnt
 one_commands_command_of κs a x y v w p q = (p ∙ sym q, refl)

@@ -33,7 +33,11 @@ pub fn wrong_depth(nodes: &[u64], words: &[i64]) -> bool
 fn flush_rows(nodes: &[u64], depth: u64) -> u64
     ensures { result ≡ flush_rows (nodes_alone nodes.now) depth }
 {
-    if words::at(nodes, DEPTH) == depth { live_effects(nodes) } else { 0 }
+    if words::at(nodes, DEPTH) == depth {
+        live_effects(nodes)
+    } else {
+        0
+    }
 }
 
 // A new effect wants one row; a set or add at depth 0, or an end at depth 1, wants as many as effects are live.
