@@ -5,13 +5,13 @@ ghost use Rattle.std.specs.Prelude.{◌≡◌, ◌-◌, ◌%◌, eqb, not};
 ghost use Rattle.std.specs.Int.Bits.{bit_and, bit_or};
 ghost use Rattle.flags.specs.Flags.{named};
 
-#[derive(Clone, Copy)]
+#[derive(Clone, Copy, PartialEq, Eq)]
 pub struct Flags {
     pub bits: u8,
 }
 
 // Which of the six named bits are set.
-#[derive(Clone, Copy)]
+#[derive(Clone, Copy, PartialEq, Eq)]
 pub struct Named {
     pub mutable: bool,
     pub watching: bool,
@@ -36,7 +36,7 @@ impl Flags {
 
     pub const PENDING: Flags = Flags { bits: 32 };
 
-    // A table word holds the flags in its low byte.
+    // A table word holds the flags in its low byte. A method and no From: what the word has above that byte is lost.
     pub fn of_word(w: u64) -> Flags
         ensures { result.bits ≡ w % 256 }
     {
@@ -45,28 +45,17 @@ impl Flags {
         }
     }
 
-    pub fn word(self) -> u64
-        ensures { result ≡ self.bits }
-    {
-        self.bits as u64
-    }
-
+    // The two tests and the three operations are methods: a rule of the project.
     pub fn is_zero(self) -> bool
         ensures { result ≡ eqb self.bits 0 }
     {
-        self.bits == 0
+        self == Flags::NONE
     }
 
     pub fn is_nonzero(self) -> bool
         ensures { result ≡ not (eqb self.bits 0) }
     {
-        self.bits != 0
-    }
-
-    pub fn same(self, other: Flags) -> bool
-        ensures { result ≡ eqb self.bits other.bits }
-    {
-        self.bits == other.bits
+        self != Flags::NONE
     }
 
     // The bits of either: the Rust's `|` and `add_flags`.
@@ -107,5 +96,13 @@ impl Flags {
             dirty: self.mask(Flags::DIRTY).is_nonzero(),
             pending: self.mask(Flags::PENDING).is_nonzero(),
         }
+    }
+}
+
+impl From<Flags> for u64 {
+    ghost from_gives = { λ flags w. w ≡ flags.bits };
+
+    fn from(flags: Flags) -> u64 {
+        u64::from(flags.bits)
     }
 }

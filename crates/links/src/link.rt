@@ -26,6 +26,7 @@ fn names(links: &[u64], w: u64, dep: u64) -> bool
 }
 
 // Whether dep's last subscriber is sub at this version.
+#[tactic(auto, unfolding(linking::specs::Link::newest))]
 fn is_newest(nodes: &[u64], links: &[u64], dep: u64, sub: u64, version: Version) -> bool
     ensures { result ≡ newest (tab nodes.now links.now) dep sub version.cycle }
 {
@@ -35,10 +36,7 @@ fn is_newest(nodes: &[u64], links: &[u64], dep: u64, sub: u64, version: Version)
     let used = Version {
         cycle: words::get(links, LINK, s, VERSION),
     };
-    if used.same(version) {
-        return words::get(links, LINK, s, SUB) == sub;
-    }
-    false
+    used == version && words::get(links, LINK, s, SUB) == sub
 }
 
 // A slot with these words, and its word; 0 where none is free.

@@ -35,7 +35,7 @@ fn reset(nodes: &mut [u64], n: u64, flags: Flags)
     ensures { nodes.new ≡ reset nodes.old n flags.bits }
 {
     words::store(nodes, NODE, n, DEPS_TAIL, 0);
-    words::store(nodes, NODE, n, FLAGS, flags.word());
+    words::store(nodes, NODE, n, FLAGS, u64::from(flags));
 }
 
 // Node n is gone for good.

@@ -48,7 +48,7 @@ fn describe(nodes: &mut [u64], n: u64, sort: Sort, formula: &[i64])
     ensures { nodes.new ≡ described nodes.old n sort formula.now }
 {
     let start = words::at(nodes, USED);
-    words::store(nodes, NODE, n, FLAGS, sort.flags.word());
+    words::store(nodes, NODE, n, FLAGS, u64::from(sort.flags));
     words::store(nodes, NODE, n, KIND, sort.kind);
     words::store(nodes, NODE, n, GONE, 0);
     words::store(nodes, NODE, n, DEPS, 0);
@@ -124,7 +124,7 @@ fn own(nodes: &mut [u64], links: &mut [u64], n: u64, owner: u64)
     let Slot::At(o) = slots::open(owner) else {
         return;
     };
-    link(nodes, links, n, o, Version::new());
+    link(nodes, links, n, o, Version::default());
 }
 
 // A signal whose two values are v. It takes no cells.

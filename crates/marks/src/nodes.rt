@@ -15,5 +15,5 @@ pub fn flags(nodes: &[u64], n: u64) -> Flags
 pub fn set_flags(nodes: &mut [u64], n: u64, f: Flags)
     ensures { nodes.new ≡ set_flags nodes.old n f.bits }
 {
-    words::store(nodes, NODE, n, FLAGS, f.word());
+    words::store(nodes, NODE, n, FLAGS, u64::from(f));
 }

@@ -194,12 +194,9 @@ fn dirty(nodes: &mut [u64], links: &[u64], sub: u64)
     ensures { nodes.new ≡ dirtied links.now nodes.old sub }
 {
     let flags = flags(nodes, sub);
-    if flags.mask(CHANGED).same(Flags::PENDING) {
+    if flags.mask(CHANGED) == Flags::PENDING {
         set_flags(nodes, sub, flags.join(Flags::DIRTY));
-        if flags
-            .mask(Flags::WATCHING.join(Flags::RECURSED_CHECK))
-            .same(Flags::WATCHING)
-        {
+        if flags.mask(Flags::WATCHING.join(Flags::RECURSED_CHECK)) == Flags::WATCHING {
             notify(nodes, links, sub);
             return;
         }

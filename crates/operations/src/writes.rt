@@ -31,7 +31,7 @@ pub fn set(
 ) -> u64
     ensures { ran_to (state nodes.new links.new values.new) log.new result ≡ written cells.now (state nodes.old links.old values.old) log.old n v }
 {
-    if places::pending(values, n).same(v) {
+    if places::pending(values, n) == v {
         return 0;
     }
     places::keep_pending(values, n, v);

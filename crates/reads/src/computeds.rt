@@ -41,11 +41,12 @@ pub fn finish_first(nodes: &mut [u64], values: &mut [i64], n: u64, v: Value)
 }
 
 // The dependencies that were not reached go. The answer is whether the value changed.
+#[tactic(auto, using(values::proofs::ValueLaws::eq_same), unfolding(reading::specs::Steps::finished))]
 pub fn finish(nodes: &mut [u64], links: &mut [u64], values: &mut [i64], n: u64, v: Value) -> bool
     ensures { told result (state nodes.new links.new values.new) ≡ finished (state nodes.old links.old values.old) n v }
 {
     let old = places::current(values, n);
     finish_first(nodes, values, n, v);
     purge_deps(nodes, links, n);
-    !old.same(v)
+    old != v
 }

@@ -10,6 +10,7 @@ use flags::Flags;
 use marks::nodes::{flags, set_flags};
 
 // Whether that changed it.
+#[tactic(auto, using(values::proofs::ValueLaws::eq_same), unfolding(reading::specs::Steps::updated_signal))]
 pub fn update_signal(nodes: &mut [u64], values: &mut [i64], n: u64) -> bool
     ensures { (l : List ℕ) → told result (state nodes.new l values.new) ≡ updated_signal (state nodes.old l values.old) n }
 {
@@ -17,7 +18,7 @@ pub fn update_signal(nodes: &mut [u64], values: &mut [i64], n: u64) -> bool
     let old = places::current(values, n);
     let new = places::pending(values, n);
     places::keep_current(values, n, new);
-    !old.same(new)
+    old != new
 }
 
 pub fn refresh_signal(nodes: &mut [u64], links: &[u64], values: &mut [i64], n: u64)

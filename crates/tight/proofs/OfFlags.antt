@@ -3,14 +3,10 @@ use mathlib.Core.Path.{refl, sym, ◌∙◌}
 use Rattle.tight.specs.OneAnswer.{OneAnswer}
 use Rattle.flags.proofs.Flags.of_word.Kinds as of-word-kinds
 use Rattle.flags.proofs.Flags.of_word.Reads as of_word
-use Rattle.flags.proofs.Flags.word.Kinds as word-kinds
-use Rattle.flags.proofs.Flags.word.Reads as word
 use Rattle.flags.proofs.Flags.is_zero.Kinds as is-zero-kinds
 use Rattle.flags.proofs.Flags.is_zero.Reads as is_zero
 use Rattle.flags.proofs.Flags.is_nonzero.Kinds as is-nonzero-kinds
 use Rattle.flags.proofs.Flags.is_nonzero.Reads as is-nonzero
-use Rattle.flags.proofs.Flags.same.Kinds as same_kinds
-use Rattle.flags.proofs.Flags.same.Reads as same
 use Rattle.flags.proofs.Flags.join.Kinds as join-kinds
 use Rattle.flags.proofs.Flags.join.Reads as join
 use Rattle.flags.proofs.Flags.mask.Kinds as mask-kinds
@@ -31,9 +27,6 @@ one_is_zero κs a x y v w p q = (p ∙ sym q, refl)
 
 pub one_is_nonzero : OneAnswer is-nonzero-kinds.ps is-nonzero-kinds.r is-nonzero.Learnt
 one_is_nonzero κs a x y v w p q = (p ∙ sym q, refl)
-
-pub one_same : OneAnswer same_kinds.ps same_kinds.r same.Learnt
-one_same κs a x y v w p q = (p ∙ sym q, refl)
 
 pub one_join : OneAnswer join-kinds.ps join-kinds.r join.Learnt
 one_join κs a x y v w p q = (λ i. record { bits = (p ∙ sym q) i }, refl)

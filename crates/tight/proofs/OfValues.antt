@@ -15,8 +15,6 @@ use Rattle.values.proofs.Value.less.Kinds as less-kinds
 use Rattle.values.proofs.Value.less.Reads as less
 use Rattle.values.proofs.Value.is_zero.Kinds as is-zero-kinds
 use Rattle.values.proofs.Value.is_zero.Reads as is_zero
-use Rattle.values.proofs.Value.same.Kinds as same_kinds
-use Rattle.values.proofs.Value.same.Reads as same
 use Rattle.values.proofs.load.Kinds as load-kinds
 use Rattle.values.proofs.load.Reads as load
 use Rattle.values.proofs.keep.Kinds as keep_kinds
@@ -42,9 +40,6 @@ one_less κs a x y v w p q = (p ∙ sym q, refl)
 
 pub one_is_zero : OneAnswer is-zero-kinds.ps is-zero-kinds.r is_zero.Learnt
 one_is_zero κs a x y v w p q = (p ∙ sym q, refl)
-
-pub one_same : OneAnswer same_kinds.ps same_kinds.r same.Learnt
-one_same κs a x y v w p q = (p ∙ sym q, refl)
 
 pub one_load : OneAnswer load-kinds.ps load-kinds.r load.Learnt
 one_load κs a x y v w p q = (p ∙ sym q, refl)

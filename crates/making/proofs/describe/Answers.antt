@@ -6,7 +6,7 @@ pub returns : goal.returns
 unfolding described set_all
 returns c = rw (
   ← c.at-start.ensures,
-  ← c.word.ensures,
+  ← c.from.ensures,
   ← c.store.ensures,
   ← c.store-2.ensures,
   ← c.store-3.ensures,

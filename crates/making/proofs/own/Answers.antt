@@ -8,4 +8,4 @@ returns-in_default c v = rw (← c.open.ensures, c.in_default.is)
 
 pub returns : goal.returns
 unfolding owned
-returns c v = rw (← c.open.ensures, c.in-At.is, ← c.new.ensures, ← c.link.ensures)
+returns c v = rw (← c.open.ensures, c.in-At.is, ← c.default.ensures, ← c.link.ensures)

@@ -6,6 +6,6 @@ pub returns : goal.returns
 unfolding reset
 returns c = rw (
   ← c.store.ensures,
-  ← c.word.ensures,
+  ← c.from.ensures,
   ← c.store-2.ensures,
 )

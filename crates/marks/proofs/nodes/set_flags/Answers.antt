@@ -2,4 +2,4 @@
 use Rattle.marks.proofs.nodes.set_flags.Goals as goal
 
 pub returns : goal.returns
-returns c = rw (← c.word.ensures) c.store.ensures
+returns c = rw (← c.from.ensures) c.store.ensures
