@@ -19,9 +19,6 @@ use Rattle.flags.proofs.Flags.names.Reads as names
 pub one_of_word : OneAnswer of-word-kinds.ps of-word-kinds.r of_word.Learnt
 one_of_word κs a x y v w p q = (λ i. record { bits = (p ∙ sym q) i }, refl)
 
-pub one_word_lem : OneAnswer word-kinds.ps word-kinds.r word.Learnt
-one_word_lem κs a x y v w p q = (p ∙ sym q, refl)
-
 pub one_is_zero : OneAnswer is-zero-kinds.ps is-zero-kinds.r is_zero.Learnt
 one_is_zero κs a x y v w p q = (p ∙ sym q, refl)
 
