@@ -8,71 +8,48 @@ use trees::cells::{Cell, Op};
 pub fn natural(k: i64) -> Option<u64>
     ensures { result ≡ natural_of k }
 {
-    if k < 0 {
-        return None;
-    }
-    Some(k as u64)
+    u64::try_from(k).ok()
 }
 
 // A cell that carries operand 0.
+#[tactic(auto, unfolding(trees::specs::Cells::bare_of))]
 fn bare(operand: i64, c: Cell) -> Cell
     ensures { result ≡ bare_of operand c }
 {
-    let Some(n) = natural(operand) else {
-        return Cell::Bad;
-    };
-    if n == 0 { c } else { Cell::Bad }
+    if operand == 0 { c } else { Cell::Bad }
 }
 
+#[tactic(auto, unfolding(trees::specs::Cells::read_of))]
 fn read(operand: i64) -> Cell
     ensures { result ≡ read_of operand }
 {
-    let Some(n) = natural(operand) else {
-        return Cell::Bad;
-    };
-    Cell::Read(n)
+    natural(operand).map_or(Cell::Bad, Cell::Read)
 }
 
+#[tactic(auto, unfolding(trees::specs::Cells::cell_of, trees::specs::Cells::codes))]
 pub fn cell_of(code: i64, operand: i64) -> Cell
     ensures { result ≡ cell_of code operand }
 {
-    let Some(c) = natural(code) else {
-        return Cell::Bad;
-    };
-    if c == 1 {
-        return Cell::Constant(operand);
+    match code {
+        1 => Cell::Constant(operand),
+        2 => read(operand),
+        3 => bare(operand, Cell::Two(Op::Sum)),
+        4 => bare(operand, Cell::Two(Op::Difference)),
+        5 => bare(operand, Cell::Two(Op::Minimum)),
+        6 => bare(operand, Cell::Two(Op::Maximum)),
+        7 => bare(operand, Cell::Two(Op::Less)),
+        8 => bare(operand, Cell::Choose),
+        _ => Cell::Bad,
     }
-    if c == 2 {
-        return read(operand);
-    }
-    if c == 3 {
-        return bare(operand, Cell::Two(Op::Sum));
-    }
-    if c == 4 {
-        return bare(operand, Cell::Two(Op::Difference));
-    }
-    if c == 5 {
-        return bare(operand, Cell::Two(Op::Minimum));
-    }
-    if c == 6 {
-        return bare(operand, Cell::Two(Op::Maximum));
-    }
-    if c == 7 {
-        return bare(operand, Cell::Two(Op::Less));
-    }
-    if c == 8 {
-        return bare(operand, Cell::Choose);
-    }
-    Cell::Bad
 }
 
 // How many arguments a cell takes.
+#[tactic(auto, unfolding(trees::specs::Cells::arity_of))]
 pub fn arity(c: Cell) -> Option<u64>
     ensures { result ≡ arity_of c }
 {
     match c {
-        Cell::Constant(_) => Some(0),
-        Cell::Read(_) => Some(0),
+        Cell::Constant(_) | Cell::Read(_) => Some(0),
         Cell::Two(_) => Some(2),
         Cell::Choose => Some(3),
         Cell::Bad => None,
@@ -80,31 +57,40 @@ pub fn arity(c: Cell) -> Option<u64>
 }
 
 // The node that a cell names: a read cell does, no other.
+#[tactic(auto, unfolding(trees::specs::Cells::name_of))]
 pub fn name(c: Cell) -> Option<u64>
     ensures { result ≡ name_of c }
 {
     match c {
-        Cell::Constant(_) => None,
         Cell::Read(n) => Some(n),
-        Cell::Two(_) => None,
-        Cell::Choose => None,
-        Cell::Bad => None,
+        _ => None,
     }
 }
 
 // Cell i of a list of cells; past the end it is bad.
+#[tactic(auto, unfolding(trees::specs::Cells::cell_at))]
 pub fn cell_at(cells: &[i64], i: u64) -> Cell
     ensures { result ≡ cell_at cells.now i }
 {
-    if i >= (cells.len() / 2) as u64 {
-        return Cell::Bad;
+    if i < cells.len() as u64 / 2 {
+        cell_of(
+            words::signed_at(cells, i * 2),
+            words::signed_at(cells, i * 2 + 1),
+        )
+    } else {
+        Cell::Bad
     }
-    let code = words::signed_at(cells, i * 2);
-    let operand = words::signed_at(cells, i * 2 + 1);
-    cell_of(code, operand)
+}
+
+// The node that cell i names.
+pub fn name_at(cells: &[i64], i: u64) -> Option<u64>
+    ensures { result ≡ name_of (cell_at cells.now i) }
+{
+    name(cell_at(cells, i))
 }
 
 // Where the expression that starts at cell i ends: one pass, with a single count of the arguments still owed. It stops at a bad cell.
+// A while: the cells tell on the way how many they are, so no range is at hand for a for.
 pub fn end(cells: &[i64], i: u64) -> u64
     ensures { result ≡ end_of cells.now i }
 {

@@ -12,37 +12,27 @@ pub const MOST_CELLS: usize = 64;
 pub const MOST_NESTING: u64 = 16;
 
 // Whether n is an existing signal or computed.
+#[tactic(auto, unfolding(trees::specs::Legal::readable_in, trees::specs::Legal::read_kind))]
 pub fn readable(nodes: &[u64], n: u64) -> bool
     ensures { result ≡ readable_in nodes.now n }
 {
-    if n >= words::at(nodes, COUNT) {
-        return false;
-    }
-    let kind = words::get(nodes, NODE, n, KIND);
-    if kind == SIGNAL {
-        return true;
-    }
-    kind == COMPUTED
+    n < words::at(nodes, COUNT) && matches!(words::get(nodes, NODE, n, KIND), SIGNAL | COMPUTED)
 }
 
 // Whether the cell names nothing, or what can be read.
+#[tactic(auto, unfolding(trees::specs::Legal::known_in))]
 fn known(nodes: &[u64], c: Cell) -> bool
     ensures { result ≡ known_in nodes.now c }
 {
-    let Some(n) = name(c) else {
-        return true;
-    };
-    readable(nodes, n)
+    name(c).is_none_or(|n| readable(nodes, n))
 }
 
 // How many arguments the cell takes; none where it names what cannot be read.
+#[tactic(auto, unfolding(trees::specs::Legal::takes_in))]
 fn takes(nodes: &[u64], c: Cell) -> Option<u64>
     ensures { result ≡ takes_in nodes.now c }
 {
-    if !known(nodes, c) {
-        return None;
-    }
-    arity(c)
+    if known(nodes, c) { arity(c) } else { None }
 }
 
 // Where the one expression from cell i on ends, if it is of nesting at most `depth`.
@@ -52,33 +42,20 @@ fn one(nodes: &[u64], cells: &[i64], depth: u64, i: u64) -> Option<u64>
     if depth == 0 {
         return None;
     }
-    let Some(n) = takes(nodes, cell_at(cells, i)) else {
-        return None;
-    };
-    let mut left = n;
+    let arguments = takes(nodes, cell_at(cells, i))?;
     let mut at = i + 1;
-    while 0 < left {
-        let Some(j) = one(nodes, cells, depth - 1, at) else {
-            return None;
-        };
-        at = j;
-        left -= 1;
+    for _argument in 0..arguments {
+        at = one(nodes, cells, depth - 1, at)?;
     }
     Some(at)
 }
 
+#[tactic(auto, unfolding(trees::specs::Legal::legal_in))]
 pub fn legal(nodes: &[u64], cells: &[i64]) -> bool
     ensures { result ≡ legal_in nodes.now cells.now }
 {
     let count = cells.len() / 2;
-    if cells.len() % 2 != 0 {
-        return false;
-    }
-    if count > MOST_CELLS {
-        return false;
-    }
-    let Some(j) = one(nodes, cells, MOST_NESTING, 0) else {
-        return false;
-    };
-    j == count as u64
+    cells.len() % 2 == 0
+        && count <= MOST_CELLS
+        && one(nodes, cells, MOST_NESTING, 0) == Some(count as u64)
 }

@@ -1,5 +1,5 @@
 -- Document 01, "Commands": a formula is an expression tree; how it is written out in cells, what it is worth, and what it reads.
-use Rattle.std.specs.Prelude.{Bool, true, false, List, [], ◌∷◌, ◌++◌, ℕ, suc, ◌+◌, max, ℤ, pos}
+use Rattle.std.specs.Prelude.{true, false, List, [], ◌∷◌, ◌++◌, ℕ, suc, ◌+◌, max, ℤ, pos}
 use Rattle.values.specs.declared.Value.{Value}
 use Rattle.values.specs.Values.{value, sum, difference, minimum, maximum, less, is_zero}
 use Rattle.trees.specs.declared.cells.Op.{Op}

@@ -3,7 +3,6 @@ use native.Mathlib.Omega.{arith}
 use mathlib.Core.Path.{refl, sym, ap, ◌∙◌}
 use Rattle.trees.proofs.ScanLaws.{arity_inside, count_done, count_stops, count_turns}
 use Rattle.trees.specs.Cells.{arity_of, end_of}
-use Prim.Native.Nat.{◌-◌}
 use Rattle.formula.proofs.cells.end.Goals as goal
 
 pub loop-owed-init : goal.loop-owed-init

@@ -7,8 +7,5 @@ use Rattle.formula.proofs.legal.+one.Given as goal
 abbrev pub decreases-one : goal.decreases-one
 decreases-one l = l.depth
 
-abbrev pub invariant-loop-left : goal.invariant-loop-left
-invariant-loop-left l = rest l.nodes l.cells (l.depth - 1) l.initial.left l.initial.at ≡ rest l.nodes l.cells (l.depth - 1) l.left l.at
-
-abbrev pub decreases-loop-left : goal.decreases-loop-left
-decreases-loop-left l = l.left
+abbrev pub invariant-loop-argument : goal.invariant-loop-argument
+invariant-loop-argument l = rest l.nodes l.cells (l.depth - 1) l.arguments l.initial.at ≡ rest l.nodes l.cells (l.depth - 1) (l.arguments - l._argument) l.at

@@ -6,7 +6,4 @@ use lib.ListN.{length}
 use Rattle.formula.proofs.scans.read_cells.Given as goal
 
 abbrev pub invariant-loop-i : goal.invariant-loop-i
-invariant-loop-i l = (l.i ≤ l.end) × (l.count ≤ l.i) × (l.count + length (named l.cells (l.end - l.i) l.i) ≡ read_cells l.cells)
-
-abbrev pub decreases-loop-i : goal.decreases-loop-i
-decreases-loop-i l = l.end - l.i
+invariant-loop-i l = (l.count ≤ l.i) × (l.count + length (named l.cells (l.end - l.i) l.i) ≡ read_cells l.cells)
