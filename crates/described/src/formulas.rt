@@ -3,6 +3,7 @@ ghost use Rattle.std.specs.Prelude.{◌≡◌};
 ghost use Rattle.telling.specs.Formulas.{own_cells, cell_lower, reads_lower, formula_in};
 
 use crate::rank;
+use counts::room::cell_room;
 use formula::cells::{cell_at, name};
 use formula::legal::legal;
 use formula::scans::read_cells;
@@ -16,11 +17,8 @@ pub fn own_cells<'a>(nodes: &[u64], cells: &'a [i64], n: u64) -> &'a [i64]
 {
     let start = words::get(nodes, NODE, n, START);
     let count = words::get(nodes, NODE, n, CELLS);
-    let room = (cells.len() / 2) as u64;
-    if count > room {
-        return &cells[..0];
-    }
-    if start > room - count {
+    let room = cell_room(cells);
+    if count > room || start > room - count {
         return &cells[..0];
     }
     let from = (start * 2) as usize;
@@ -29,39 +27,32 @@ pub fn own_cells<'a>(nodes: &[u64], cells: &'a [i64], n: u64) -> &'a [i64]
 }
 
 // Whether the cell names nothing, or a node of lower rank than n.
+#[tactic(auto, unfolding(telling::specs::Formulas::cell_lower))]
 fn cell_lower(c: Cell, n: u64) -> bool
     ensures { result ≡ cell_lower n c }
 {
-    let Some(m) = name(c) else {
-        return true;
-    };
-    rank::lower(m, n)
+    name(c).is_none_or(|m| rank::lower(m, n))
 }
 
 // Whether every read cell names a node of lower rank than n.
 fn reads_lower(cells: &[i64], n: u64) -> bool
     ensures { result ≡ reads_lower cells.now n }
 {
-    let end = (cells.len() / 2) as u64;
-    let mut i: u64 = 0;
-    while i < end {
+    let end = cells.len() as u64 / 2;
+    for i in 0..end {
         if !cell_lower(cell_at(cells, i), n) {
             return false;
         }
-        i += 1;
     }
     true
 }
 
 // Whether the cells are a formula that node n may have, with the number of read cells that its row says.
+#[tactic(auto, unfolding(telling::specs::Formulas::formula_in))]
 pub fn formula(nodes: &[u64], cells: &[i64], n: u64) -> bool
     ensures { result ≡ formula_in nodes.now cells.now n }
 {
-    if !legal(nodes, cells) {
-        return false;
-    }
-    if !reads_lower(cells, n) {
-        return false;
-    }
-    words::get(nodes, NODE, n, READS) == read_cells(cells)
+    legal(nodes, cells)
+        && reads_lower(cells, n)
+        && words::get(nodes, NODE, n, READS) == read_cells(cells)
 }

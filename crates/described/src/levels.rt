@@ -6,11 +6,9 @@ use primitive::rows::{LEVEL, NODE};
 use primitive::words;
 
 // Whether node n's level is the one given, and at most the greatest allowed.
+#[tactic(auto, unfolding(telling::specs::Levels::level_kept))]
 pub fn level_kept(nodes: &[u64], n: u64, level: u64, most: u64) -> bool
     ensures { result ≡ level_kept nodes.now n level most }
 {
-    if level > most {
-        return false;
-    }
-    words::get(nodes, NODE, n, LEVEL) == level
+    level <= most && words::get(nodes, NODE, n, LEVEL) == level
 }

@@ -6,90 +6,72 @@ use crate::formulas::{formula, own_cells};
 use crate::levels::level_kept;
 use counts::depths::{MOST_OWNER_DEPTH, depth_under};
 use formula::scans::{MOST_HEIGHT, height};
-use primitive::rows::{COMPUTED, EFFECT, GONE, KIND, LEVEL, NODE, OWNER, SCOPE, SIGNAL};
+use primitive::kinds::Kind;
+use primitive::rows::{GONE, KIND, LEVEL, NODE, OWNER};
 use primitive::words;
 
 // Signals and computeds are never gone and have no owner.
+#[tactic(auto, unfolding(telling::specs::Nodes::stands_alone))]
 fn stands_alone(nodes: &[u64], n: u64) -> bool
     ensures { result ≡ stands_alone nodes.now n }
 {
-    if words::get(nodes, NODE, n, GONE) != 0 {
-        return false;
-    }
-    words::get(nodes, NODE, n, OWNER) == 0
+    words::get(nodes, NODE, n, GONE) == 0 && words::get(nodes, NODE, n, OWNER) == 0
 }
 
+#[tactic(auto, unfolding(telling::specs::Nodes::signal_in))]
 fn signal(nodes: &[u64], n: u64) -> bool
     ensures { result ≡ signal_in nodes.now n }
 {
-    if !stands_alone(nodes, n) {
-        return false;
-    }
-    words::get(nodes, NODE, n, LEVEL) == 0
+    stands_alone(nodes, n) && words::get(nodes, NODE, n, LEVEL) == 0
 }
 
+#[tactic(auto, using(crate::proofs::LevelLaws::kept_whole), unfolding(telling::specs::Nodes::computed_in))]
 fn computed(nodes: &[u64], cells: &[i64], n: u64) -> bool
     ensures { result ≡ computed_in nodes.now cells.now n }
 {
-    if !stands_alone(nodes, n) {
-        return false;
-    }
     let own = own_cells(nodes, cells, n);
-    if !formula(nodes, own, n) {
-        return false;
-    }
-    level_kept(nodes, n, height(nodes, own), MOST_HEIGHT)
+    stands_alone(nodes, n)
+        && formula(nodes, own, n)
+        && level_kept(nodes, n, height(nodes, own), MOST_HEIGHT)
 }
 
 // A scope has no formula. Its depth is tested when it is gone, too.
+#[tactic(auto, using(crate::proofs::LevelLaws::kept_whole), unfolding(telling::specs::Nodes::scope_in))]
 fn scope(nodes: &[u64], n: u64) -> bool
     ensures { result ≡ scope_in nodes.now n }
 {
-    if words::get(nodes, NODE, n, GONE) > 1 {
-        return false;
-    }
     let owner = words::get(nodes, NODE, n, OWNER);
-    if owner > n {
-        return false;
-    }
-    level_kept(nodes, n, depth_under(nodes, owner), MOST_OWNER_DEPTH)
+    words::get(nodes, NODE, n, GONE) <= 1
+        && owner <= n
+        && level_kept(nodes, n, depth_under(nodes, owner), MOST_OWNER_DEPTH)
 }
 
+#[tactic(auto, unfolding(telling::specs::Nodes::effect_in))]
 fn effect(nodes: &[u64], cells: &[i64], n: u64) -> bool
     ensures { result ≡ effect_in nodes.now cells.now n }
 {
-    if !scope(nodes, n) {
-        return false;
-    }
-    formula(nodes, own_cells(nodes, cells, n), n)
+    scope(nodes, n) && formula(nodes, own_cells(nodes, cells, n), n)
 }
 
+#[tactic(auto, unfolding(telling::specs::Nodes::node_in))]
 fn node(nodes: &[u64], cells: &[i64], n: u64) -> bool
     ensures { result ≡ node_in nodes.now cells.now n }
 {
-    let kind = words::get(nodes, NODE, n, KIND);
-    if kind == SIGNAL {
-        return signal(nodes, n);
+    match Kind::of_word(words::get(nodes, NODE, n, KIND)) {
+        Some(Kind::Signal) => signal(nodes, n),
+        Some(Kind::Computed) => computed(nodes, cells, n),
+        Some(Kind::Effect) => effect(nodes, cells, n),
+        Some(Kind::Scope) => scope(nodes, n),
+        None => false,
     }
-    if kind == COMPUTED {
-        return computed(nodes, cells, n);
-    }
-    if kind == EFFECT {
-        return effect(nodes, cells, n);
-    }
-    if kind == SCOPE {
-        return scope(nodes, n);
-    }
-    false
 }
 
 // The nodes below `count`.
+#[tactic(auto, using(crate::proofs::NodeLaws::every_false), unfolding(telling::specs::Nodes::nodes_in))]
 pub fn every_node(nodes: &[u64], cells: &[i64], count: u64) -> bool
     ensures { result ≡ nodes_in nodes.now cells.now count }
 {
-    let mut n = count;
-    while 0 < n {
-        n -= 1;
+    for n in 0..count {
         if !node(nodes, cells, n) {
             return false;
         }

@@ -3,6 +3,7 @@ ghost use Rattle.std.specs.Prelude.{◌≡◌};
 ghost use Rattle.telling.specs.Formulas.{lower_rank};
 
 // Whether node m is of lower rank than node n.
+#[tactic(auto, unfolding(telling::specs::Formulas::lower_rank))]
 pub fn lower(m: u64, n: u64) -> bool
     ensures { result ≡ lower_rank m n }
 {

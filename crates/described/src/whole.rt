@@ -9,23 +9,15 @@ use primitive::rows::{COUNT, USED};
 use primitive::words;
 
 // The nodes are lent the cells in use only, so that no other cell decides.
+#[tactic(auto, unfolding(telling::specs::Whole::described_in))]
 pub fn described(nodes: &[u64], links: &[u64], values: &[i64], cells: &[i64]) -> bool
     ensures { result ≡ described_in nodes.now links.now values.now cells.now }
 {
-    if !carry(nodes, links, values, cells) {
-        return false;
-    }
     let count = words::at(nodes, COUNT);
-    if count > node_room(nodes) {
-        return false;
-    }
     let used = words::at(nodes, USED);
-    if used > cell_room(cells) {
-        return false;
-    }
-    let end = (used * 2) as usize;
-    if !every_node(nodes, &cells[..end], count) {
-        return false;
-    }
-    reserve(nodes) <= slot_room(links)
+    carry(nodes, links, values, cells)
+        && count <= node_room(nodes)
+        && used <= cell_room(cells)
+        && every_node(nodes, &cells[..(used * 2) as usize], count)
+        && reserve(nodes) <= slot_room(links)
 }

@@ -3,7 +3,8 @@ ghost use Rattle.std.specs.Prelude.{◌≡◌};
 ghost use Rattle.trees.specs.Legal.{readable_in, known_in, takes_in, one_at, legal_in};
 
 use crate::cells::{arity, cell_at, name};
-use primitive::rows::{COMPUTED, COUNT, KIND, NODE, SIGNAL};
+use primitive::kinds::Kind;
+use primitive::rows::{COUNT, KIND, NODE};
 use primitive::words;
 use trees::cells::Cell;
 
@@ -16,7 +17,11 @@ pub const MOST_NESTING: u64 = 16;
 pub fn readable(nodes: &[u64], n: u64) -> bool
     ensures { result ≡ readable_in nodes.now n }
 {
-    n < words::at(nodes, COUNT) && matches!(words::get(nodes, NODE, n, KIND), SIGNAL | COMPUTED)
+    n < words::at(nodes, COUNT)
+        && matches!(
+            Kind::of_word(words::get(nodes, NODE, n, KIND)),
+            Some(Kind::Signal | Kind::Computed)
+        )
 }
 
 // Whether the cell names nothing, or what can be read.
