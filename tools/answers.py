@@ -38,7 +38,7 @@ def functions(crate):
     src = 'crates/%s/src' % crate
     for f in sorted(os.listdir(src)):
         text = re.sub(r'//[^\n]*', '', open(os.path.join(src, f), encoding='utf-8').read())
-        impls = [(m.start(), m.group(1)) for m in re.finditer(r'^impl (\w+)', text, re.M)]
+        impls = [(m.start(), m.group(1)) for m in re.finditer(r'^impl(?:<[^>]*>)? (\w+)', text, re.M)]
         ends = [m.start() for m in re.finditer(r'^\}', text, re.M)]
         for m in re.finditer(r'\bpub\s+(?:extern\s+"C"\s+)?fn\s+(\w+)', text):
             of = [t for at, t in impls if at < m.start() < min(e for e in ends if e > at)]
@@ -157,7 +157,7 @@ def proof(crate, module, head, text):
     got = claims(head)
     if not got:
         return None
-    m = re.match(r"(?:<[^>]*>)?\((.*?)\) ?(?:-> ([&'\w\[\] ]+?) )?ensures", head)
+    m = re.match(r"(?:<[^>]*>)?\((.*?)\) ?(?:-> ([&'\w\[\]<> ]+?) )?ensures", head)
     params = [x.strip() for x in m.group(1).split(',') if x.strip()]
     answers = m.group(2)
     found, lets = {}, []

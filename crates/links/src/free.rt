@@ -17,15 +17,7 @@ pub fn live(links: &[u64]) -> u64
     ensures { result ≡ live links.now }
 {
     let rows = (links.len() / 8) as u64;
-    let mut n: u64 = 0;
-    let mut count: u64 = 0;
-    while n < rows {
-        if is_live(links, n) {
-            count += 1;
-        }
-        n += 1;
-    }
-    count
+    (0..rows).filter(|n| is_live(links, *n)).count() as u64
 }
 
 // The word of the first free slot, which is live then and off the list; 0 where no slot is free, and nothing changes.

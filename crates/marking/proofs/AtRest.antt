@@ -1,6 +1,6 @@
 -- A visit of a node whose flags have neither RECURSED_CHECK nor RECURSED, as between commands: a clean node becomes pending and the walk goes on from it;
 -- any other is left alone. Assumes nothing.
-use mathlib.Core.Path.{◌≡◌, refl, sym, ap, ◌∙◌}
+use mathlib.Core.Path.{◌≡◌, refl, sym}
 use mathlib.Core.Bool.{Bool, true, false}
 use Prim.Native.Nat.{ℕ, ◌<◌}
 use native.Mathlib.Omega.{arith}

@@ -1,14 +1,12 @@
--- The walk of shallow_propagate, turn by turn, as the code takes it. Assumes nothing.
-use mathlib.Core.Path.{◌≡◌, refl, sym, ◌∙◌}
-use mathlib.Core.Bool.{true, false}
-use mathlib.Core.List.{List}
-use Prim.Native.Nat.{ℕ, zero, suc, ◌-◌, ◌<◌, ◌≤◌}
-use native.Mathlib.Numerals.{sub-one}
-use native.Mathlib.Omega.{arith}
+-- What shallow_propagate does at a subscriber, as the code does it, and its walk. Assumes nothing.
+use Rattle.std.proofs.Common.{◌≡◌, ℕ, zero, suc, List, true, false, refl, sym, ◌∙◌}
+use Rattle.std.specs.List.{fold}
 use lib.Bits.{bit_or}
 use Rattle.primitive.specs.Slots.{slot_of}
 use Rattle.primitive.specs.declared.slots.Slot.{Slot}
 use Rattle.primitive.specs.declared.slots.Slot.TheVariants.{At, Nothing}
+use Rattle.primitive.specs.Walk.{along}
+use Rattle.primitive.specs.Words.{NEXT-SUB}
 use Rattle.marking.specs.Fields.{flags_of, set_flags, sub, next_sub_of, watching, recursed_checking, dirty, pending, changed, has_only}
 use Rattle.marking.specs.Notify.{notified}
 use Rattle.marking.specs.Shallow.{raised, dirtied, further, shallow_from}
@@ -32,26 +30,14 @@ module _ (L N : List ℕ) (n : ℕ) {f : ℕ} (g : f ≡ flags_of N n) where
     unfolding raised
     dirty_rests v = sym (raises ∙ rw (v, raised, ← i, ← e))
 
-pub shallow_end : (L N : List ℕ) (s k : ℕ) → k ≤ 0 → shallow_from L k N s ≡ N
-unfolding shallow_from
-shallow_end L N s zero h = refl
-shallow_end L N s (suc k) h = absurd (omega arith)
-
--- a turn makes M of the tables, at the subscriber n of slot s, and opens the word w of the next
-module _ (L N : List ℕ) (s k : ℕ) {n w : ℕ} {M : List ℕ} {o : Slot} (h : 0 < k) (i : n ≡ sub L s) (e : M ≡ dirtied L N n)
-    (p : w ≡ next_sub_of L s) (u : o ≡ slot_of w) where
-  turned : shallow_from L k N s ≡ further (shallow_from L (k - 1)) M o
-  unfolding shallow_from
-  turned = go k h ∙ rw (← i, ← e, ← p, ← u)
-    where
-      go : (k : ℕ) → 0 < k → shallow_from L k N s ≡ further (shallow_from L (k - 1)) (dirtied L N (sub L s)) (slot_of (next_sub_of L s))
-      go zero h = absurd (omega arith)
-      go (suc k) h = rw (sub-one (suc k))
-
-  pub shallow_none : o ≡ Nothing → shallow_from L k N s ≡ M
-  unfolding further
-  shallow_none d = turned ∙ rw d
-
-  pub shallow_more : {x : ℕ} → o ≡ At x → shallow_from L k N s ≡ shallow_from L (k - 1) M x
-  unfolding further
-  shallow_more d = turned ∙ rw d
+-- the walk marks each slot of a walk along NEXT_SUB in turn
+pub shallow_walk : (L : List ℕ) (k : ℕ) (N : List ℕ) (s : ℕ) → fold (λ M x. dirtied L M (sub L x)) N (along L NEXT-SUB k (At s)) ≡ shallow_from L k N s
+unfolding shallow_from further
+shallow_walk L zero N s = refl
+shallow_walk L (suc k) N s = go k (slot_of (next_sub_of L s)) (shallow_walk L k (dirtied L N (sub L s)))
+  where
+    go : (k : ℕ) (o : Slot) → ((x : ℕ) → fold (λ M x. dirtied L M (sub L x)) (dirtied L N (sub L s)) (along L NEXT-SUB k (At x)) ≡ shallow_from L k (dirtied L N (sub L s)) x)
+        → fold (λ M x. dirtied L M (sub L x)) (dirtied L N (sub L s)) (along L NEXT-SUB k o) ≡ further (shallow_from L k) (dirtied L N (sub L s)) o
+    go zero Nothing h = refl
+    go (suc k) Nothing h = refl
+    go k (At x) h = h x

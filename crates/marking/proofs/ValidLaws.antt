@@ -1,37 +1,25 @@
--- The walk of is_valid_link, turn by turn, as the code takes it. Assumes nothing.
-use mathlib.Core.Path.{◌≡◌, refl, ◌∙◌}
-use mathlib.Core.Bool.{true, false}
-use mathlib.Core.List.{List}
-use Prim.Native.Nat.{ℕ, zero, suc, ◌-◌, ◌<◌, ◌≤◌}
-use native.Mathlib.Numerals.{sub-one}
-use native.Mathlib.Omega.{arith}
-use borrow.Author.Tests.{eq-eqb, ne_eqb}
+-- The walk of is_valid_link is a test of the slots of a walk along PREV_DEP. Assumes nothing.
+use Rattle.std.proofs.Common.{◌≡◌, ℕ, zero, suc, List, Bool, true, false, ◌||◌, refl}
+use Rattle.std.specs.List.{list_any}
+use lib.Dec.{eqb}
 use Rattle.primitive.specs.Slots.{slot_of}
 use Rattle.primitive.specs.declared.slots.Slot.{Slot}
 use Rattle.primitive.specs.declared.slots.Slot.TheVariants.{At, Nothing}
+use Rattle.primitive.specs.Walk.{along}
+use Rattle.primitive.specs.Words.{PREV-DEP}
 use Rattle.marking.specs.Fields.{prev_dep_of}
 use Rattle.marking.specs.Valid.{valid_at, valid_from}
 
-pub valid_end : (L : List ℕ) (s w k : ℕ) → k ≤ 0 → valid_from L s k w ≡ false
-unfolding valid_from
-valid_end L s w zero h = refl
-valid_end L s w (suc k) h = absurd (omega arith)
+pub valid_walk : (L : List ℕ) (s k w : ℕ) → list_any (λ x. eqb x s) (along L PREV-DEP k (slot_of w)) ≡ valid_from L s k w
+unfolding valid_from valid_at
+valid_walk L s zero w = refl
+valid_walk L s (suc k) w = go (slot_of w) (valid_walk L s k)
+  where
+    here : (b : Bool) (x : ℕ) → list_any (λ y. eqb y s) (along L PREV-DEP k (slot_of (prev_dep_of L x))) ≡ valid_from L s k (prev_dep_of L x)
+        → (b || list_any (λ y. eqb y s) (along L PREV-DEP k (slot_of (prev_dep_of L x)))) ≡ elim b [ true ↦ true | false ↦ valid_from L s k (prev_dep_of L x) ]
+    here true x h = refl
+    here false x h = h
 
-module _ (L : List ℕ) (s w : ℕ) {o : Slot} (u : o ≡ slot_of w) where
-  turned : (k : ℕ) → 0 < k → valid_from L s k w ≡ valid_at (valid_from L s (k - 1)) L s o
-  unfolding valid_from
-  turned zero h = absurd (omega arith)
-  turned (suc k) h = rw (sub-one (suc k), u)
-
-  pub valid_none : (k : ℕ) → 0 < k → o ≡ Nothing → valid_from L s k w ≡ false
-  unfolding valid_at
-  valid_none k h d = turned k h ∙ rw d
-
-  module _ {x : ℕ} (d : o ≡ At x) where
-    pub valid_here : (k : ℕ) → 0 < k → x ≡ s → valid_from L s k w ≡ true
-    unfolding valid_at
-    valid_here k h e = turned k h ∙ rw (d, eq-eqb x s e, valid_at)
-
-    pub valid_more : (k : ℕ) {v : ℕ} → 0 < k → (x ≡ s → ⊥) → v ≡ prev_dep_of L x → valid_from L s k w ≡ valid_from L s (k - 1) v
-    unfolding valid_at
-    valid_more k h e i = turned k h ∙ rw (d, ne_eqb x s e, valid_at, i)
+    go : (o : Slot) → ((v : ℕ) → list_any (λ x. eqb x s) (along L PREV-DEP k (slot_of v)) ≡ valid_from L s k v) → list_any (λ x. eqb x s) (along L PREV-DEP (suc k) o) ≡ valid_at (valid_from L s k) L s o
+    go Nothing h = refl
+    go (At x) h = here (eqb x s) x (h (prev_dep_of L x))

@@ -11,6 +11,7 @@ use crate::nodes::{flags, set_flags};
 use flags::Flags;
 use primitive::rows::{DEPS_TAIL, LINK, NEXT_SUB, NODE, PREV_DEP, SUB, SUBS};
 use primitive::slots::Slot;
+use primitive::walk::Walk;
 use primitive::{slots, words};
 
 // Flags that are tested together.
@@ -30,19 +31,8 @@ const MARKED: Flags = Flags {
 pub fn is_valid_link(nodes: &[u64], links: &[u64], s: u64, sub: u64) -> bool
     ensures { result ≡ valid_link links.now nodes.now s sub }
 {
-    let mut link = words::get(nodes, NODE, sub, DEPS_TAIL);
-    let mut left = links.len() / 8;
-    while 0 < left {
-        left -= 1;
-        let Slot::At(at) = slots::open(link) else {
-            return false;
-        };
-        if at == s {
-            return true;
-        }
-        link = words::get(links, LINK, at, PREV_DEP);
-    }
-    false
+    let tail = slots::open(words::get(nodes, NODE, sub, DEPS_TAIL));
+    Walk::new(links, tail, PREV_DEP).any(|at| at == s)
 }
 
 // The five branches of propagate: marks the subscriber of slot s, and answers the flags that decide what follows.
@@ -208,14 +198,7 @@ fn dirty(nodes: &mut [u64], links: &[u64], sub: u64)
 pub fn shallow_propagate(nodes: &mut [u64], links: &[u64], s: u64)
     ensures { nodes.new ≡ shallow links.now nodes.old s }
 {
-    let mut link = s;
-    let mut left = links.len() / 8;
-    while 0 < left {
-        left -= 1;
+    for link in Walk::new(links, Slot::At(s), NEXT_SUB) {
         dirty(nodes, links, words::get(links, LINK, link, SUB));
-        let Slot::At(next) = slots::open(words::get(links, LINK, link, NEXT_SUB)) else {
-            return;
-        };
-        link = next;
     }
 }

@@ -7,6 +7,8 @@ use Rattle.primitive.proofs.kinds.Kind.word.Kinds as kinds-word-kinds
 use Rattle.primitive.proofs.kinds.Kind.word.Reads as kinds-word
 use Rattle.primitive.proofs.slots.open.Kinds as slots-open-kinds
 use Rattle.primitive.proofs.slots.open.Reads as slots-open
+use Rattle.primitive.proofs.walk.Walk.new.Kinds as walk_new_kinds
+use Rattle.primitive.proofs.walk.Walk.new.Reads as walk_new
 use Rattle.primitive.proofs.words.at.Kinds as words-at-kinds
 use Rattle.primitive.proofs.words.at.Reads as words-at
 use Rattle.primitive.proofs.words.put.Kinds as words-put-kinds
@@ -26,6 +28,9 @@ one_kinds_word κs a x y v w p q = (p ∙ sym q, refl)
 
 pub one_slots_open : OneAnswer slots-open-kinds.ps slots-open-kinds.r slots-open.Learnt
 one_slots_open κs a x y v w p q = (p ∙ sym q, refl)
+
+pub one_walk_new : OneAnswer walk_new_kinds.ps walk_new_kinds.r walk_new.Learnt
+one_walk_new κs a x y v w p q = (p ∙ sym q, refl)
 
 pub one_words_at : OneAnswer words-at-kinds.ps words-at-kinds.r words-at.Learnt
 one_words_at κs a x y v w p q = (p ∙ sym q, refl)

@@ -1,32 +1,35 @@
--- `links::free::live` meets its contract. The loop's invariant: count is the number of live slots below n. The measure is what is left. Assumes nothing.
-use mathlib.Core.Path.{refl, ap, ◌∙◌}
-use native.Mathlib.Omega.{arith}
-use Rattle.linking.specs.Free.{live_below, live}
-use Rattle.linking.proofs.FreeLaws.{below_le, below_more}
+-- `links::free::live` meets its contract: the chain counts over the list of all slots, the definition from the first on. Assumes nothing.
+use Rattle.std.proofs.Common.{◌≡◌, ℕ, zero, suc, ◌+◌, List, Bool, true, false, cond, refl, ap, ◌∙◌, arith, rules}
+use Rattle.std.specs.List.{fold, count_by, range_with_len}
+use borrow.Author.Tests.{tests}
+use Rattle.std.proofs.lemmas.Iterator.{YieldsList-from_range}
+use Rattle.std.proofs.lemmas.Iterator.Consumers.{YieldsList-from_filter, count_from_yields_List}
+use Rattle.std.proofs.lemmas.List.Sums.{length-filter}
+use Rattle.linking.specs.Free.{is_live_slot, one, slots, live_below, live}
 use Rattle.links.proofs.free.live.Goals as goal
-use Rattle.links.proofs.free.live.Goals.{then-is_live, else-is_live}
 
-pub loop-n-init : goal.loop-n-init
+one_more : (g : ℕ → ℕ → ℕ) (z a n : ℕ) → fold g z (range_with_len a (suc n)) ≡ g (fold g z (range_with_len a n)) (a + n)
+one_more g z a zero = ap (g z) (omega arith)
+one_more g z a (suc n) =
+    let e : a + 1 + n ≡ a + suc n = omega arith in
+    one_more g (g z a) (a + 1) n ∙ ap (g (fold g (g z a) (range_with_len (a + 1) n))) e
+
+one_or_none : (b : Bool) → cond b 1 0 ≡ one b
+one_or_none true = refl
+one_or_none false = refl
+
+counted : (l : List ℕ) (n : ℕ) → count_by (is_live_slot l) (range_with_len 0 n) ≡ live_below l n
 unfolding live_below
-loop-n-init c = (refl, omega arith)
-
-pub overflow_add-count : goal.overflow_add-count
-overflow_add-count c = omega (arith, c.loop-n.invariant.0, below_le c.args.links.now c.loop-n.n)
-
-pub loop-n-preserved : goal.loop-n-preserved
-loop-n-preserved c =
-    let l = c.args.links.now in
-    let n = c.loop-n.n in
-    let e = c.loop-n.invariant.0 in
-    let r = c.is_live.ensures in (
-      elim c.if-is_live.branch [
-        | then-is_live w ↦ omega (arith, w.count-is, e, below_more l n r w.if-is_live.true)
-        | else-is_live w ↦ omega (arith, w.count-is, e, below_more l n r w.if-is_live.false)
-      ],
-      omega arith,
-    )
+counted l zero = refl
+counted l (suc n) =
+    let e : 0 + n ≡ n = omega arith in
+    rw (one_more (λ k x. k + cond (is_live_slot l x) 1 0) 0 0 n, e, counted l n, one_or_none (is_live_slot l n))
 
 pub returns : goal.returns
 unfolding live
 returns c =
-    c.loop-n.invariant.0 ∙ ap (live_below c.args.links.now) (omega arith)
+    let l = c.args.links.now in
+    let n = slots l in
+    count_from_yields_List _ _ c.count.ensures.ran
+    (YieldsList-from_filter _ (is_live_slot l) (YieldsList-from_range 0 n n c.filter.ensures.source (omega arith)) c.filter.ensures.closure (λ x r q k. search (rules, tests)))
+    ∙ length-filter (is_live_slot l) _ ∙ counted l n

@@ -1,13 +1,10 @@
--- `marks::walks::shallow_propagate` meets its contract. The loop's invariant: what is left of the walk gives the same tables as the whole; the length stays.
--- The measure is the budget. Assumes nothing.
-use mathlib.Core.Path.{◌≡◌}
-use lib.ListN.{length}
-use Rattle.marking.specs.Shallow.{shallow_from}
+-- `marks::walks::shallow_propagate` meets its contract. The loop's invariant: the slots to come make of the tables what the whole walk makes. Assumes nothing.
+use Rattle.std.proofs.Common.{◌≡◌}
+use Rattle.std.specs.List.{fold}
+use Rattle.marking.specs.Fields.{sub}
+use Rattle.marking.specs.Shallow.{dirtied, shallow}
 use Rattle.marks.proofs.walks.shallow_propagate.Given as goal
 
-abbrev pub invariant-loop-left : goal.invariant-loop-left
-invariant-loop-left l =
-    (shallow_from l.links l.initial.left l.initial.nodes l.initial.link ≡ shallow_from l.links l.left l.nodes l.link) × (length l.nodes ≡ length l.initial.nodes)
-
-abbrev pub decreases-loop-left : goal.decreases-loop-left
-decreases-loop-left l = l.left
+abbrev pub invariant-loop-link : goal.invariant-loop-link
+invariant-loop-link l =
+    fold (λ N x. dirtied l.links N (sub l.links x)) l.nodes l.link-iterator ≡ shallow l.links l.initial.nodes l.s
