@@ -12,16 +12,10 @@ use Rattle.primitive.specs.Rows.{field}
 use Rattle.trees.specs.Cells.{name_of, cell_at, or_else}
 use Rattle.trees.specs.Names.{named}
 use Rattle.trees.proofs.CellLaws.{cell_out}
-use Rattle.trees.specs.Legal.{readable_in}
 use Rattle.lists.specs.Once.{stamp}
-use Rattle.lists.proofs.SumLaws.{bit_le}
 use Rattle.resting.specs.Depends.{reads_kind}
 use Rattle.counting.specs.Counts.{counted_in, slot_room}
-use Rattle.resting.specs.Named.{is_read_link, names_of, stamp_cell, stamp_cells, stamp_node, links_stamped, named_from}
-
-pub read_most : (t l : List ℕ) (x r : ℕ) → r ≡ is_read_link t l x → r ≤ 1
-unfolding is_read_link
-read_most t l x r e = omega (arith, e, bit_le (readable_in t (field 8 l x 1)))
+use Rattle.resting.specs.Named.{names_of, stamp_cell, stamp_cells, stamp_node, links_stamped, named_from}
 
 module _ (c : List ℤ) (s : List ℕ) (v i : ℕ) where
   pub cell_none : {r : Option ℕ} → r ≡ name_of (cell_at c i) → r ≡ None → s ≡ stamp_cell c s v i
@@ -32,16 +26,9 @@ module _ (c : List ℤ) (s : List ℕ) (v i : ℕ) where
   unfolding stamp_cell named stamp
   cell_some u m e f g = rw (sym e ∙ f) g
 
-  pub cells_none : (k : ℕ) → k ≡ 0 → stamp_cells c s v i k ≡ s
-  unfolding stamp_cells named stamp
-  cells_none k e = rw e
-
-  pub cells_turn : (u : List ℕ) (k : ℕ) → (k ≡ 0 → ⊥) → u ≡ stamp_cell c s v i → stamp_cells c s v i k ≡ stamp_cells c u v (i + 1) (k - 1)
+  pub cells_turn : (u : List ℕ) (k m : ℕ) → k ≡ suc m → u ≡ stamp_cell c s v i → stamp_cells c s v i k ≡ stamp_cells c u v (i + 1) m
   unfolding stamp_cells stamp_cell named stamp
-  cells_turn u zero h e = absurd (h refl)
-  cells_turn u (suc k) h e =
-      let z : suc k - 1 ≡ k = omega arith in
-      rw (e, z, add-one) (at (name_of (cell_at c i)) (named c k (suc i)))
+  cells_turn u k m h e = rw (h, e, add-one) (at (name_of (cell_at c i)) (named c m (suc i)))
     where
       at : (x : Option ℕ) (ns : List ℕ) → stamp s v (or_else x ns (λ (n : ℕ). n ∷ ns)) ≡ stamp (stamp s v (or_else x [] (λ (n : ℕ). n ∷ []))) v ns
       at None ns = refl
@@ -53,9 +40,10 @@ unfolding named name_of
 past c zero i h = refl
 past c (suc k) i h = rw (← cell_out c i h) (past c k (suc i) (omega arith))
 
-pub cells_past : (c : List ℤ) (s : List ℕ) (v i k : ℕ) → length c / 2 ≤ i → stamp_cells c s v i k ≡ s
-unfolding stamp_cells stamp
-cells_past c s v i k h = ap (stamp s v) (past c k i h)
+pub cells_done : (c : List ℤ) (s : List ℕ) (v i k : ℕ) → (0 < k → length c / 2 ≤ i) → stamp_cells c s v i k ≡ s
+unfolding stamp_cells named stamp
+cells_done c s v i zero h = refl
+cells_done c s v i (suc k) h = ap (stamp s v) (past c (suc k) i (h (omega arith)))
 
 module _ (t : List ℕ) (c : List ℤ) (s : List ℕ) (n v : ℕ) where
   pub node_stamped : (u : List ℕ) (start k : ℕ) → start ≡ field 16 t n 7 → k ≡ field 16 t n 8 → reads_kind (field 16 t n 1) ≡ true → u ≡ stamp_cells c s v start k → u ≡ stamp_node t c s n v

@@ -2,85 +2,57 @@
 ghost use Rattle.std.specs.Prelude.{◌≡◌};
 ghost use Rattle.resting.specs.Flagged.{signal_flags, computed_flags, effect_flags, gone_flags, flags_on};
 
-use primitive::rows::{COMPUTED, EFFECT, SCOPE, SIGNAL};
+use primitive::kinds::Kind;
 
+// The numbers are sums of bits: 1 mutable, 2 watching, 16 dirty, 32 pending.
+#[tactic(auto, unfolding(resting::specs::Flagged::signal_flags))]
 fn signal_flags(flags: u64) -> bool
     ensures { result ≡ signal_flags flags }
 {
-    if flags == 1 {
-        return true;
-    }
-    flags == 17
+    matches!(flags, 1 | 17)
 }
 
+#[tactic(auto, unfolding(resting::specs::Flagged::computed_flags))]
 fn computed_flags(flags: u64, deps: u64, subs: u64) -> bool
     ensures { result ≡ computed_flags flags deps subs }
 {
-    if flags == 0 {
-        if deps != 0 {
-            return false;
-        }
-        return subs == 0;
+    match flags {
+        0 => deps == 0 && subs == 0,
+        1 => true,
+        17 => deps == 0,
+        33 | 49 => deps != 0,
+        _ => false,
     }
-    if flags == 1 {
-        return true;
-    }
-    if flags == 17 {
-        return deps == 0;
-    }
-    if flags == 33 {
-        return deps != 0;
-    }
-    if flags == 49 {
-        return deps != 0;
-    }
-    false
 }
 
+#[tactic(auto, unfolding(resting::specs::Flagged::effect_flags))]
 fn effect_flags(flags: u64, reads: u64) -> bool
     ensures { result ≡ effect_flags flags reads }
 {
-    if flags == 2 {
-        return true;
+    match flags {
+        0 | 2 => true,
+        32 | 48 => reads != 0,
+        _ => false,
     }
-    if flags == 0 {
-        return true;
-    }
-    if flags == 32 {
-        return reads != 0;
-    }
-    if flags == 48 {
-        return reads != 0;
-    }
-    false
 }
 
+#[tactic(auto, unfolding(resting::specs::Flagged::gone_flags))]
 fn gone_flags(flags: u64) -> bool
     ensures { result ≡ gone_flags flags }
 {
-    if flags == 0 {
-        return true;
-    }
-    flags == 2
+    matches!(flags, 0 | 2)
 }
 
+#[tactic(auto, unfolding(resting::specs::Flagged::flags_on))]
 pub fn flags_on(kind: u64, gone: u64, flags: u64, deps: u64, subs: u64, reads: u64) -> bool
     ensures { result ≡ flags_on kind gone flags deps subs reads }
 {
-    if kind == SIGNAL {
-        return signal_flags(flags);
+    match Kind::of_word(kind) {
+        Some(Kind::Signal) => signal_flags(flags),
+        Some(Kind::Computed) => computed_flags(flags, deps, subs),
+        Some(Kind::Effect) if gone == 0 => effect_flags(flags, reads),
+        Some(Kind::Effect) => gone_flags(flags),
+        Some(Kind::Scope) => flags == 0,
+        None => false,
     }
-    if kind == COMPUTED {
-        return computed_flags(flags, deps, subs);
-    }
-    if kind == EFFECT {
-        if gone == 0 {
-            return effect_flags(flags, reads);
-        }
-        return gone_flags(flags);
-    }
-    if kind == SCOPE {
-        return flags == 0;
-    }
-    false
 }

@@ -16,6 +16,7 @@ use primitive::rows::{DEPS, FLAGS, GONE, KIND, NODE, READS, SUBS};
 use primitive::words;
 
 // Whether node n has no more read links than read cells, and flags that its kind may have at rest.
+#[tactic(auto, unfolding(resting::specs::Joined::flagged_at))]
 fn flagged_at(nodes: &[u64], links: &[u64], n: u64) -> bool
     ensures { result ≡ flagged_at nodes.now links.now n }
 {
@@ -26,31 +27,25 @@ fn flagged_at(nodes: &[u64], links: &[u64], n: u64) -> bool
     let subs = words::get(nodes, NODE, n, SUBS);
     let cells = words::get(nodes, NODE, n, READS);
     let reads = named::read_links(nodes, links, deps);
-    if reads > cells {
-        return false;
-    }
-    flagged::flags_on(kind, gone, flags, deps, subs, reads)
+    reads <= cells && flagged::flags_on(kind, gone, flags, deps, subs, reads)
 }
 
 // What is asked of node n alone.
+#[tactic(auto, unfolding(resting::specs::Joined::rests_at))]
 fn rests_at(nodes: &[u64], links: &[u64], n: u64) -> bool
     ensures { result ≡ rests_at nodes.now links.now n }
 {
-    if !depends::depends_at(nodes, links, n) {
-        return false;
-    }
-    if !depends::owned_at(nodes, links, n) {
-        return false;
-    }
-    flagged_at(nodes, links, n)
+    depends::depends_at(nodes, links, n)
+        && depends::owned_at(nodes, links, n)
+        && flagged_at(nodes, links, n)
 }
 
+#[tactic(auto, using(lists::proofs::EachLaws::every_step), unfolding(resting::specs::Joined::rest_in, lists::specs::Each::every))]
 fn rest(nodes: &[u64], links: &[u64]) -> bool
     ensures { result ≡ rest_in nodes.now links.now }
 {
-    let mut n = room::counted(nodes);
-    while 0 < n {
-        n -= 1;
+    let count = room::counted(nodes);
+    for n in 0..count {
         if !rests_at(nodes, links, n) {
             return false;
         }
@@ -58,17 +53,12 @@ fn rest(nodes: &[u64], links: &[u64]) -> bool
     true
 }
 
+#[tactic(auto, unfolding(resting::specs::Joined::joined_in))]
 pub fn joined(nodes: &[u64], links: &[u64], cells: &[i64]) -> bool
     ensures { result ≡ joined_in nodes.now links.now cells.now }
 {
-    if !linked::linked(nodes, links) {
-        return false;
-    }
-    if !rest(nodes, links) {
-        return false;
-    }
-    if !named::named(nodes, links, cells) {
-        return false;
-    }
-    queued::queued(nodes)
+    linked::linked(nodes, links)
+        && rest(nodes, links)
+        && named::named(nodes, links, cells)
+        && queued::queued(nodes)
 }

@@ -3,12 +3,12 @@ use mathlib.Core.Path.{◌≡◌, refl, sym, ap, ◌∙◌}
 use mathlib.Core.Logic.{◌⊎◌, inl, inr}
 use mathlib.Core.Bool.{Bool, true, false}
 use mathlib.Core.List.{List, [], ◌∷◌}
-use Prim.Native.Nat.{ℕ, zero, suc, ◌+◌, ◌-◌, ◌<◌, ◌≤◌}
+use Prim.Native.Nat.{ℕ, zero, suc, ◌+◌, ◌<◌, ◌≤◌}
 use native.Mathlib.Omega.{arith}
 use lib.Dec.{eqb}
 use lib.ListN.{length}
 use borrow.Author.Tests.{ne_eqb, eqb-true, eqb-false}
-use Rattle.lists.specs.Sum.{bit, sum, count, occ, All}
+use Rattle.lists.specs.Sum.{bit, count, occ, All}
 use Rattle.lists.specs.Walk.{slots}
 use Rattle.lists.specs.Each.{both, either, pick, every, along, tally, keep}
 use Rattle.lists.proofs.SumLaws.{bit_true, bit_false, clash, occ_cons, sum_same, sum_occ, occ_none}
@@ -139,37 +139,19 @@ module _ (next : ℕ → ℕ) (p : ℕ → Bool) where
       at i false e = rw (keep_no p x (slots next b (next x)) e) (omega (arith, i, bit_false (p x) e))
 
 -- ---- the ways through one turn of the code
-module _ (p : ℕ → Bool) where
-  pub every_end : (k : ℕ) → k ≤ 0 → every p k ≡ true
-  unfolding every
-  every_end zero h = refl
-  every_end (suc k) h = absurd (omega arith)
+pub every_fails : (p : ℕ → Bool) (n k : ℕ) → k < n → p k ≡ false → every p n ≡ false
+every_fails p n k h e = go (every p n) refl
+  where
+    go : (b : Bool) → every p n ≡ b → b ≡ false
+    go true t = absurd (clash (p k) (every_sound p n t k h) e)
+    go false t = refl
 
-  pub every_bad : (k : ℕ) → 0 < k → p (k - 1) ≡ false → every p k ≡ false
-  unfolding every
-  every_bad zero h e = absurd (omega arith)
-  every_bad (suc k) h e =
-      let m : suc k - 1 ≡ k = omega arith in
-      let f : p k ≡ false = rw m at e in
-      rw (f, every)
-
-  pub every_more : (k : ℕ) → 0 < k → p (k - 1) ≡ true → every p k ≡ every p (k - 1)
-  unfolding every
-  every_more zero h e = absurd (omega arith)
-  every_more (suc k) h e =
-      let m : suc k - 1 ≡ k = omega arith in
-      let f : p k ≡ true = rw m at e in
-      rw (m, f, every)
-
-  pub count_step : (k c n : ℕ) → 0 < k → c + count p k ≡ n → (c + bit (p (k - 1))) + count p (k - 1) ≡ n
-  unfolding sum
-  count_step zero c n h e = absurd (omega arith)
-  count_step (suc k) c n h e = let q : suc k - 1 ≡ k = omega arith in rw q (omega (arith, e))
-
-  pub count_end_lem : (k c n : ℕ) → k ≤ 0 → c + count p k ≡ n → c ≡ n
-  unfolding sum
-  count_end_lem zero c n h e = omega (arith, e)
-  count_end_lem (suc k) c n h e = absurd (omega arith)
+pub every_step : (p : ℕ → Bool) (n : ℕ) → every p n ≡ true → p n ≡ true → every p (n + 1) ≡ true
+every_step p n e h = every_complete p (n + 1) (λ k l. go k l (eqb k n) refl)
+  where
+    go : (k : ℕ) → k < n + 1 → (b : Bool) → eqb k n ≡ b → p k ≡ true
+    go k l true t = ap p (eqb-true k n t) ∙ h
+    go k l false t = let q : k ≡ n → ⊥ = eqb-false k n t in every_sound p n e k (omega arith)
 
 module _ (next : ℕ → ℕ) (p : ℕ → Bool) where
   pub along_out : (b w : ℕ) → b ≤ 0 → along next p b w ≡ true
@@ -187,10 +169,9 @@ module _ (next : ℕ → ℕ) (p : ℕ → Bool) where
   along_bad zero w x h i e = absurd (omega arith)
   along_bad (suc b) w x h i e = rw i (rw (e, along))
 
-  pub along_more : (b w x v : ℕ) → 0 < b → w ≡ suc x → p x ≡ true → v ≡ next x → along next p b w ≡ along next p (b - 1) v
+  pub along_more : (b c w x v : ℕ) → b ≡ suc c → w ≡ suc x → p x ≡ true → v ≡ next x → along next p b w ≡ along next p c v
   unfolding along
-  along_more zero w x v h i e q = absurd (omega arith)
-  along_more (suc b) w x v h i e q = let o : suc b - 1 ≡ b = omega arith in rw (i, q, o) (rw (e, along))
+  along_more b c w x v h i e q = rw (h, i, q) (rw (e, along))
 
   pub tally_out : (b w c n : ℕ) → b ≤ 0 → c + tally next p b w ≡ n → c ≡ n
   unfolding tally
@@ -206,12 +187,10 @@ module _ (next : ℕ → ℕ) (p : ℕ → Bool) where
       at (suc b) e = omega (arith, e)
   tally_end b (suc x) c n i e = absurd (omega arith)
 
-  pub tally_more : (b w x v c n : ℕ) → 0 < b → w ≡ suc x → v ≡ next x → c + tally next p b w ≡ n → (c + bit (p x)) + tally next p (b - 1) v ≡ n
+  pub tally_yes : (b d w x v c n : ℕ) → b ≡ suc d → w ≡ suc x → v ≡ next x → p x ≡ true → c + tally next p b w ≡ n → (c + 1) + tally next p d v ≡ n
   unfolding tally
-  tally_more zero w x v c n h i q e = absurd (omega arith)
-  tally_more (suc b) zero x v c n h i q e = absurd (omega arith)
-  tally_more (suc b) (suc y) x v c n h i q e =
-      let o : suc b - 1 ≡ b = omega arith in
-      let j : y ≡ x = omega arith in
-      let f : c + (bit (p x) + tally next p b (next x)) ≡ n = rw (← j) e in
-      rw (q, o) (omega (arith, f))
+  tally_yes b d w x v c n h i q f e = let g = rw (h, i, tally, f) at e in rw q (omega (arith, g))
+
+  pub tally_no : (b d w x v c n : ℕ) → b ≡ suc d → w ≡ suc x → v ≡ next x → p x ≡ false → c + tally next p b w ≡ n → c + tally next p d v ≡ n
+  unfolding tally
+  tally_no b d w x v c n h i q f e = let g = rw (h, i, tally, f) at e in rw q (omega (arith, g))

@@ -1,33 +1,17 @@
 -- `joined::linked::frees` meets its contract. Assumes nothing.
+use Rattle.joined.proofs.TurnLaws.{at_slot, at_nothing}
 use Rattle.joined.proofs.WalkTurns.{frees_done, frees_out, frees_bad, frees_more}
-use mathlib.Core.Path.{refl, sym, ◌∙◌}
-use native.Mathlib.Omega.{arith}
+use mathlib.Core.Path.{sym, ◌∙◌}
 use Rattle.joined.proofs.linked.frees.Goals as goal
 
-pub loop-at-init : goal.loop-at-init
-loop-at-init c = refl
-
-pub returns-then-left-eq0 : goal.returns-then-left-eq0
-returns-then-left-eq0 c =
-    sym (c.loop-at.invariant ∙ frees_out _ _ _ c.loop-at-test.true c.if-left-eq0.true)
-
-pub overflow_sub-x : goal.overflow_sub-x
-overflow_sub-x c = omega arith
+pub returns-in_err-left : goal.returns-in_err-left
+returns-in_err-left c = c.from_residual.ensures ∙ sym (c.loop-x.invariant ∙ frees_out _ _ _ _ (at_slot _ _ c.open.ensures c.in-At.is) c.in_err-left.ensures)
 
 pub returns-then-not-spare : goal.returns-then-not-spare
-returns-then-not-spare c =
-    sym (c.loop-at.invariant ∙ frees_bad _ _ _ c.loop-at-test.true c.if-left-eq0.false (sym c.spare.ensures ∙ c.if-not-spare.true))
+returns-then-not-spare c = sym (c.loop-x.invariant ∙ frees_bad _ _ _ _ (at_slot _ _ c.open.ensures c.in-At.is) c.in_ok-left.ensures.0 (sym c.if-not-spare.ensures))
 
-pub overflow_sub-left : goal.overflow_sub-left
-overflow_sub-left c = omega arith
-
-pub loop-at-smaller : goal.loop-at-smaller
-loop-at-smaller c = omega arith
-
-pub loop-at-preserved : goal.loop-at-preserved
-loop-at-preserved c =
-    c.loop-at.invariant ∙ frees_more _ _ _ _ c.loop-at-test.true c.if-left-eq0.false (sym c.spare.ensures ∙ c.if-not-spare.false) c.get-at.ensures
+pub loop-x-preserved : goal.loop-x-preserved
+loop-x-preserved c = c.loop-x.invariant ∙ frees_more _ _ _ _ (at_slot _ _ c.open.ensures c.in-At.is) _ _ c.in_ok-left.ensures.0 c.in_ok-left.ensures.1 (sym c.if-not-spare.ensures) c.get-at.ensures
 
 pub returns : goal.returns
-returns c =
-    sym (c.loop-at.invariant ∙ frees_done _ _ _ c.loop-at-test.false)
+returns c = sym (c.loop-x.invariant ∙ frees_done _ _ _ (at_nothing _ c.open.ensures c.in_default.is))

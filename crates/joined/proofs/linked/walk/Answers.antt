@@ -1,37 +1,17 @@
 -- `joined::linked::walk` meets its contract. Assumes nothing.
-use Rattle.joined.proofs.WalkTurns.{walk_done, walk_wrong, walk_out, walk_bad, walk_more}
-use mathlib.Core.Path.{refl, sym, ◌∙◌}
-use native.Mathlib.Omega.{arith}
+use Rattle.joined.proofs.TurnLaws.{at_slot, at_nothing}
+use Rattle.joined.proofs.WalkTurns.{walk_done, walk_out, walk_bad, walk_more}
+use mathlib.Core.Path.{sym, ◌∙◌}
 use Rattle.joined.proofs.linked.walk.Goals as goal
 
-pub loop-at-init : goal.loop-at-init
-loop-at-init c = refl
-
-pub returns-then-left-eq0 : goal.returns-then-left-eq0
-returns-then-left-eq0 c =
-    sym (c.loop-at.invariant ∙ walk_out _ _ _ _ _ _ _ c.loop-at-test.true c.if-left-eq0.true)
-
-pub overflow_sub-x : goal.overflow_sub-x
-overflow_sub-x c = omega arith
+pub returns-in_err-left : goal.returns-in_err-left
+returns-in_err-left c = c.from_residual.ensures ∙ sym (c.loop-x.invariant ∙ walk_out _ _ _ _ _ _ _ _ (at_slot _ _ c.open.ensures c.in-At.is) c.in_err-left.ensures)
 
 pub returns-then-not-fits : goal.returns-then-not-fits
-returns-then-not-fits c =
-    sym (c.loop-at.invariant ∙ walk_bad _ _ _ _ _ _ _ c.loop-at-test.true c.if-left-eq0.false (sym c.fits.ensures ∙ c.if-not-fits.true))
+returns-then-not-fits c = sym (c.loop-x.invariant ∙ walk_bad _ _ _ _ _ _ _ _ (at_slot _ _ c.open.ensures c.in-At.is) c.in_ok-left.ensures.0 (sym c.if-not-fits.ensures))
 
-pub overflow_sub-left : goal.overflow_sub-left
-overflow_sub-left c = omega arith
-
-pub loop-at-smaller : goal.loop-at-smaller
-loop-at-smaller c = omega arith
-
-pub loop-at-preserved : goal.loop-at-preserved
-loop-at-preserved c =
-    c.loop-at.invariant ∙ walk_more _ _ _ _ _ _ _ _ c.loop-at-test.true c.if-left-eq0.false (sym c.fits.ensures ∙ c.if-not-fits.false) c.get-at.ensures
-
-pub returns-then-p-tail : goal.returns-then-p-tail
-returns-then-p-tail c =
-    sym (c.loop-at.invariant ∙ walk_done _ _ _ _ _ _ _ c.loop-at-test.false c.if-p-tail.true)
+pub loop-x-preserved : goal.loop-x-preserved
+loop-x-preserved c = c.loop-x.invariant ∙ walk_more _ _ _ _ _ _ _ _ (at_slot _ _ c.open.ensures c.in-At.is) _ _ c.in_ok-left.ensures.0 c.in_ok-left.ensures.1 (sym c.if-not-fits.ensures) c.get-at.ensures
 
 pub returns : goal.returns
-returns c =
-    sym (c.loop-at.invariant ∙ walk_wrong _ _ _ _ _ _ _ c.loop-at-test.false c.if-p-tail.false)
+returns c = c.then_some.ensures ∙ walk_done _ _ _ _ _ _ _ (at_nothing _ c.open.ensures c.in_default.is) ∙ sym c.loop-x.invariant

@@ -3,8 +3,8 @@ use Rattle.resting.specs.Linked.{walk}
 use mathlib.Core.Path.{◌≡◌}
 use Rattle.joined.proofs.linked.walk.Given as goal
 
-abbrev pub invariant-loop-at : goal.invariant-loop-at
-invariant-loop-at l = walk l.links l.side l.n l.tail l.initial.left l.initial.p l.initial.at ≡ walk l.links l.side l.n l.tail l.left l.p l.at
+abbrev pub invariant-loop-x : goal.invariant-loop-x
+invariant-loop-x l = walk l.links l.side l.n l.tail l.initial.left 0 l.initial.at ≡ walk l.links l.side l.n l.tail l.left l.p l.at
 
-abbrev pub decreases-loop-at : goal.decreases-loop-at
-decreases-loop-at l = l.left
+abbrev pub decreases-loop-x : goal.decreases-loop-x
+decreases-loop-x l = l.left

@@ -4,7 +4,4 @@ use mathlib.Core.Path.{◌≡◌}
 use Rattle.joined.proofs.linked.walks.Given as goal
 
 abbrev pub invariant-loop-n : goal.invariant-loop-n
-invariant-loop-n l = walks l.nodes l.links l.side l.initial.n l.initial.left ≡ walks l.nodes l.links l.side l.n l.left
-
-abbrev pub decreases-loop-n : goal.decreases-loop-n
-decreases-loop-n l = l.n
+invariant-loop-n l = walks l.nodes l.links l.side l.count l.budget ≡ walks l.nodes l.links l.side l.n l.left

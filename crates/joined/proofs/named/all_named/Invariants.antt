@@ -7,6 +7,3 @@ use Rattle.joined.proofs.named.all_named.Given as goal
 
 abbrev pub invariant-loop-n : goal.invariant-loop-n
 invariant-loop-n l = (named_from l.nodes l.links l.cells l.initial.seen l.initial.n (l.count - l.initial.n) ≡ named_from l.nodes l.links l.cells l.seen l.n (l.count - l.n)) × (length l.seen ≡ length l.initial.seen)
-
-abbrev pub decreases-loop-n : goal.decreases-loop-n
-decreases-loop-n l = l.count - l.n

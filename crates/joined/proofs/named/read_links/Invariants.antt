@@ -3,11 +3,8 @@ use Rattle.lists.specs.Each.{tally}
 use Rattle.primitive.specs.Rows.{field}
 use Rattle.trees.specs.Legal.{readable_in}
 use mathlib.Core.Path.{◌≡◌}
-use Prim.Native.Nat.{ℕ, ◌+◌, ◌≤◌}
+use Prim.Native.Nat.{ℕ, ◌+◌, ◌-◌, ◌≤◌}
 use Rattle.joined.proofs.named.read_links.Given as goal
 
-abbrev pub invariant-loop-left : goal.invariant-loop-left
-invariant-loop-left l = (l.count + tally (λ (x : ℕ). field 8 l.links x 6) (λ (x : ℕ). readable_in l.nodes (field 8 l.links x 1)) l.left l.at ≡ tally (λ (x : ℕ). field 8 l.links x 6) (λ (x : ℕ). readable_in l.nodes (field 8 l.links x 1)) l.slots l.w) × (l.count + l.left ≤ l.slots)
-
-abbrev pub decreases-loop-left : goal.decreases-loop-left
-decreases-loop-left l = l.left
+abbrev pub invariant-loop-link : goal.invariant-loop-link
+invariant-loop-link l = (l.count + tally (λ (x : ℕ). field 8 l.links x 6) (λ (x : ℕ). readable_in l.nodes (field 8 l.links x 1)) (l.slots - l._link) l.at ≡ tally (λ (x : ℕ). field 8 l.links x 6) (λ (x : ℕ). readable_in l.nodes (field 8 l.links x 1)) l.slots l.w) × (l.count ≤ l._link)

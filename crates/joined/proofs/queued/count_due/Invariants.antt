@@ -2,11 +2,8 @@
 use Rattle.lists.specs.Sum.{count}
 use Rattle.resting.specs.Queued.{due}
 use mathlib.Core.Path.{◌≡◌}
-use Prim.Native.Nat.{◌+◌, ◌≤◌}
+use Prim.Native.Nat.{◌≤◌}
 use Rattle.joined.proofs.queued.count_due.Given as goal
 
 abbrev pub invariant-loop-n : goal.invariant-loop-n
-invariant-loop-n l = (l.c + count (due l.nodes) l.n ≡ count (due l.nodes) l.initial.n) × (l.c + l.n ≤ l.initial.n)
-
-abbrev pub decreases-loop-n : goal.decreases-loop-n
-decreases-loop-n l = l.n
+invariant-loop-n l = (l.c ≡ count (due l.nodes) l.n) × (l.c ≤ l.n)

@@ -7,6 +7,3 @@ use Rattle.joined.proofs.queued.scan.Given as goal
 
 abbrev pub invariant-loop-i : goal.invariant-loop-i
 invariant-loop-i l = (left_of l.nodes l.initial.seen l.initial.i (l.n - l.initial.i) l.initial.left ≡ left_of l.nodes l.seen l.i (l.n - l.i) l.left) × (length l.seen ≡ length l.initial.seen)
-
-abbrev pub decreases-loop-i : goal.decreases-loop-i
-decreases-loop-i l = l.n - l.i
