@@ -2,7 +2,8 @@
 """answers.py: has the promise of every public function one answer? Counts what is shown, and names what is not.
 A function that another crate can name: a theorem of crates/tight/proofs, `pub one_NAME : OneAnswer KINDS.ps KINDS.r READS.Learnt`, where KINDS and
 READS are the function's own modules, and Learnt is what its contract tells a caller, as the checker reads it; that it holds is the checker's
-word, this only finds it. One that no other crate can name, as the exports of a static library, or of a crate that reaches the system: by the
+word, this only finds it. A generic function has it at each type: the three take the type and what is known of it. So has a method of a trait of
+ours, at each of its impls. One that no other crate can name, as the exports of a static library, or of a crate that reaches the system: by the
 form of its contract, an equation for the answer and for each `&mut`; or by a law of crates/tight/proofs/Rings.antt. An exception stands in
 docs/ONE-ANSWER.md, with its reason.
 `answers.py CRATE` prints the theorems of a crate, as they are proved where the contract is an equation."""
@@ -54,6 +55,12 @@ def functions(crate):
                 i += 1
             stem = f[:-3]
             yield ([] if stem in ('lib', 'main') else [stem]), of, m.group(1), re.sub(r'\s+', ' ', head).strip(), text
+        for m in re.finditer(r'^impl (\w+) for (\w+) \{$(.*?)^\}', text, re.M | re.S):
+            trait = re.search(r'^pub trait %s\b.*?^\}' % m.group(1), text, re.M | re.S)
+            for name in re.findall(r'^    fn (\w+)', m.group(3), re.M) if trait else []:
+                head = re.search(r'fn %s\b(.*?);$' % name, trait.group(0), re.M | re.S).group(1)
+                stem = f[:-3]
+                yield [stem], [m.group(2).capitalize() + m.group(1)], name, re.sub(r'\s+', ' ', head).strip(), text
 
 
 def exported(crate, module):
@@ -68,8 +75,9 @@ def path(crate, module, of, name):
     return 'Rattle.%s.proofs.%s' % (crate, '.'.join(module + of + [name]))
 
 
-def alias(module, name):
-    return '_'.join(module + [name])
+def alias(module, of, name):
+    kind = [m.group(1).lower() for t in of for m in [re.match(r'([UI]\d+)[A-Z]', t)] if m]  # the type that a trait is for
+    return '_'.join(module + kind + [name])
 
 
 # ---- printing the theorems of a crate
@@ -202,7 +210,7 @@ def write(crate):
     for module, of, name, head, text in functions(crate):
         if not exported(crate, module):
             continue
-        x = alias(module, name)
+        x = alias(module, of, name)
         made = proof(crate, module, head, text)
         uses += ['use %s.Kinds as %s_kinds' % (path(crate, module, of, name), x), 'use %s.Reads as %s' % (path(crate, module, of, name), x)]
         lines += ['', 'pub one_%s : OneAnswer %s_kinds.ps %s_kinds.r %s.Learnt' % (x, x, x, x)]
@@ -240,7 +248,8 @@ def theorem(crate, module, of, name):
     uses = dict(re.findall(r'^use (\S+) as (\S+)$', text, re.M))
     where = path(crate, module, of, name)
     kinds, reads = uses.get(where + '.Kinds'), uses.get(where + '.Reads')
-    stated = r'^pub one_%s(?:_lem)? :\s+OneAnswer\s+%s\.ps\s+%s\.r\s+%s\.Learnt$' % tuple(map(re.escape, (alias(module, name), kinds or '', kinds or '', reads or '')))
+    names = tuple(map(re.escape, (alias(module, of, name), kinds or '', kinds or '', reads or '')))
+    stated = r'^pub one_%s(?:_lem)? :\s+(?:OneAnswer\s+%s\.ps\s+%s\.r\s+%s\.Learnt|\(.*\) → OneAnswer \(%s\.ps [\w ]+\) \(%s\.r [\w ]+\) \(%s\.Learnt [\w ]+\))$' % (names + names[1:])
     return bool(kinds and reads and re.search(stated, text, re.M))
 
 

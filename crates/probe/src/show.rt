@@ -4,7 +4,7 @@ use crate::word::Word;
 use engine::command::Answer;
 use std::io;
 use stream::{Sink, send, spill};
-use text::answers::{push, put_all, put_count, put_line};
+use text::answers::{push, put_all, put_line};
 
 // A buffer before the standard output.
 #[derive(Drop)]
@@ -33,9 +33,9 @@ impl<'a, P: Print + Eprint> Page<'a, P> {
     }
 
     pub fn answer(&mut self, answer: Answer) {
-        let a = put_count(&mut self.out, self.sink.at, b"code=", answer.code);
+        let a = put_line(&mut self.out, self.sink.at, b"code=", answer.code);
         let b = put_line(&mut self.out, a, b"value=", answer.value);
-        self.sink.at = put_count(&mut self.out, b, b"runs=", answer.runs);
+        self.sink.at = put_line(&mut self.out, b, b"runs=", answer.runs);
     }
 
     pub fn table<T: Word>(&mut self, key: &[u8], t: &[T]) {

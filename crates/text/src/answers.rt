@@ -1,28 +1,27 @@
 // The lines of an answer, put into a lent buffer; what finds no room is left out.
-ghost use Rattle.std.specs.Prelude.{◌≡◌, pos};
+ghost use Rattle.std.specs.Prelude.{◌≡◌, ℤ, pos};
 ghost use Rattle.spelling.specs.Buffers.{buffer, put, pushed};
 ghost use Rattle.spelling.specs.Decimals.{glyph, digits, decimal};
 ghost use Rattle.spelling.specs.Answers.{line, row, rows, answer, unreadable_answer};
 
-// One byte at out[at]; answers the next place.
-pub fn push(out: &mut [u8], at: usize, b: u8) -> usize
-    ensures { buffer out.new result ≡ pushed (buffer out.old at) b }
+// One more at out[at]; answers the next place.
+pub fn push<T: Copy>(out: &mut [T], at: usize, x: T) -> usize
+    ensures { buffer out.new result ≡ pushed (buffer out.old at) x }
 {
     if at < out.len() {
-        out[at] = b;
-        return at + 1;
+        out[at] = x;
+        at + 1
+    } else {
+        out.len()
     }
-    out.len()
 }
 
 pub fn put_all(out: &mut [u8], at: usize, s: &[u8]) -> usize
     ensures { buffer out.new result ≡ put (buffer out.old at) s.now }
 {
-    let mut i = 0;
     let mut to = at;
-    while i < s.len() {
-        to = push(out, to, s[i]);
-        i += 1;
+    for b in s {
+        to = push(out, to, *b);
     }
     to
 }
@@ -31,7 +30,7 @@ pub fn put_all(out: &mut [u8], at: usize, s: &[u8]) -> usize
 fn glyph_of(n: u64) -> u8
     ensures { result ≡ glyph n }
 {
-    (48 + n % 10) as u8
+    b'0' + (n % 10) as u8
 }
 
 // At most `most` digits, the first first.
@@ -57,28 +56,40 @@ pub fn put_natural(out: &mut [u8], at: usize, n: u64) -> usize
 pub fn put_integer(out: &mut [u8], at: usize, v: i64) -> usize
     ensures { buffer out.new result ≡ put (buffer out.old at) (decimal v) }
 {
-    if v < 0 {
-        let to = push(out, at, 45);
-        let n = (-1 - v) as u64;
-        return put_natural(out, to, n + 1);
+    let to = if v < 0 { push(out, at, b'-') } else { at };
+    put_natural(out, to, v.unsigned_abs())
+}
+
+// A number that is written in decimal.
+pub trait Decimal {
+    ghost value: { Self → ℤ };
+
+    fn put_decimal(self, out: &mut [u8], at: usize) -> usize
+        ensures { buffer out.new result ≡ put (buffer out.old at) (decimal (value self)) };
+}
+
+impl Decimal for u64 {
+    ghost value = { pos };
+
+    fn put_decimal(self, out: &mut [u8], at: usize) -> usize {
+        put_natural(out, at, self)
     }
-    put_natural(out, at, v as u64)
 }
 
-pub fn put_line(out: &mut [u8], at: usize, key: &[u8], v: i64) -> usize
-    ensures { buffer out.new result ≡ put (buffer out.old at) (line key.now v) }
-{
-    let to = put_all(out, at, key);
-    let end = put_integer(out, to, v);
-    push(out, end, 10)
+impl Decimal for i64 {
+    ghost value = { λ v. v };
+
+    fn put_decimal(self, out: &mut [u8], at: usize) -> usize {
+        put_integer(out, at, self)
+    }
 }
 
-pub fn put_count(out: &mut [u8], at: usize, key: &[u8], n: u64) -> usize
-    ensures { buffer out.new result ≡ put (buffer out.old at) (line key.now (pos n)) }
+pub fn put_line<N: Decimal>(out: &mut [u8], at: usize, key: &[u8], n: N) -> usize
+    ensures { buffer out.new result ≡ put (buffer out.old at) (line key.now (N.value n)) }
 {
     let to = put_all(out, at, key);
-    let end = put_natural(out, to, n);
-    push(out, end, 10)
+    let end = n.put_decimal(out, to);
+    push(out, end, b'\n')
 }
 
 // A line `run=E:V`.
@@ -87,9 +98,9 @@ fn put_row(out: &mut [u8], at: usize, e: i64, v: i64) -> usize
 {
     let to = put_all(out, at, b"run=");
     let mid = put_integer(out, to, e);
-    let next = push(out, mid, 58);
+    let next = push(out, mid, b':');
     let end = put_integer(out, next, v);
-    push(out, end, 10)
+    push(out, end, b'\n')
 }
 
 // The first rows of the log.
@@ -97,15 +108,13 @@ fn put_rows(out: &mut [u8], at: usize, log: &[i64], runs: u64) -> usize
     ensures { buffer out.new result ≡ put (buffer out.old at) (rows runs log.now) }
 {
     let mut to = at;
-    let mut i = 0;
-    let mut left = runs;
-    while 0 < left {
-        if log.len() - i < 2 {
+    let mut rest = log;
+    for _ in 0..runs {
+        let [e, v, more @ ..] = rest else {
             return to;
-        }
-        to = put_row(out, to, log[i], log[i + 1]);
-        i += 2;
-        left -= 1;
+        };
+        to = put_row(out, to, *e, *v);
+        rest = more;
     }
     to
 }
@@ -114,9 +123,9 @@ fn put_rows(out: &mut [u8], at: usize, log: &[i64], runs: u64) -> usize
 pub fn put_answer(out: &mut [u8], code: u64, value: i64, runs: u64, log: &[i64]) -> usize
     ensures { buffer out.new result ≡ put (buffer out.old 0) (answer code value runs log.now) }
 {
-    let a = put_count(out, 0, b"code=", code);
+    let a = put_line(out, 0, b"code=", code);
     let b = put_line(out, a, b"value=", value);
-    let c = put_count(out, b, b"runs=", runs);
+    let c = put_line(out, b, b"runs=", runs);
     put_rows(out, c, log, runs)
 }
 

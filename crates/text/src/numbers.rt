@@ -2,91 +2,56 @@
 ghost use Rattle.std.specs.Prelude.{◌≡◌};
 ghost use Rattle.spelling.specs.Numbers.{digits_from, natural, within, plus, minus, spelled};
 
-fn wide(b: u8) -> u64
-    ensures { result ≡ b }
-{
-    b as u64
-}
+// No i64 is larger in size.
+const LARGEST: u64 = 1 << 63;
 
-// The digits from the first on. Nothing over 2^63 is told, so that the sum never wraps.
+// The digits from the first on. Nothing over 2^63 is told.
 fn digits_of(s: &[u8]) -> Option<u64>
     ensures { result ≡ within (digits_from 0 s.now) }
 {
     let mut v: u64 = 0;
-    let mut i = 0;
-    while i < s.len() {
-        let b = wide(s[i]);
-        if b < 48 {
+    for b in s {
+        if !b.is_ascii_digit() {
             return None;
         }
-        if 57 < b {
-            return None;
-        }
-        if 922337203685477580 < v {
-            return None;
-        }
-        v = v * 10 + (b - 48);
-        i += 1;
+        v = v.checked_mul(10)?.checked_add(u64::from(*b - b'0'))?;
     }
-    if 9223372036854775808 < v {
-        return None;
-    }
-    Some(v)
+    (v <= LARGEST).then_some(v)
 }
 
 // At least one digit, and a 0 leads nothing but itself.
 pub fn magnitude(s: &[u8]) -> Option<u64>
     ensures { result ≡ within (natural s.now) }
 {
-    if s.len() == 0 {
-        return None;
+    match s {
+        [b'0'] => Some(0),
+        [] | [b'0', ..] => None,
+        _ => digits_of(s),
     }
-    if s[0] == 48 {
-        if s.len() == 1 {
-            return Some(0);
-        }
-        return None;
-    }
-    digits_of(s)
 }
 
 fn positive(d: Option<u64>) -> Option<i64>
     ensures { result ≡ plus d }
 {
-    let Some(n) = d else {
-        return None;
-    };
-    if 9223372036854775807 < n {
-        return None;
-    }
-    Some(n as i64)
+    i64::try_from(d?).ok()
 }
 
-// -n is -1 - (n - 1), which no i64 is too small for.
+// -0 is no number, and -2^63 is one.
 fn negative(d: Option<u64>) -> Option<i64>
     ensures { result ≡ minus d }
 {
-    let Some(n) = d else {
-        return None;
-    };
-    if n == 0 {
-        return None;
+    match d? {
+        0 => None,
+        n => 0i64.checked_sub_unsigned(n),
     }
-    if 9223372036854775808 < n {
-        return None;
-    }
-    Some(-1 - ((n - 1) as i64))
 }
 
 // A strict decimal.
 pub fn number(s: &[u8]) -> Option<i64>
     ensures { result ≡ spelled s.now }
 {
-    if s.len() == 0 {
-        return None;
+    match s {
+        [b'-', rest @ ..] => negative(magnitude(rest)),
+        _ => positive(magnitude(s)),
     }
-    if s[0] == 45 {
-        return negative(magnitude(&s[1..]));
-    }
-    positive(magnitude(s))
 }

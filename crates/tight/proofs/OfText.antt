@@ -1,5 +1,10 @@
 -- The promise of each public function of `text` has one answer. Assumes nothing.
 use mathlib.Core.Path.{refl, sym, ◌∙◌}
+use denote.RattleType.{RattleType}
+use denote.Param.Laws.{Laws, IsCopy}
+use mir.Syntax.{Dict}
+use Rattle.std.specs.declared.clone.Clone.{Ghosts as CloneGhosts}
+use Rattle.text.specs.declared.answers.Decimal.{Ghosts as DecimalGhosts}
 use Rattle.tight.specs.OneAnswer.{OneAnswer}
 use Rattle.text.proofs.answers.push.Kinds as answers-push-kinds
 use Rattle.text.proofs.answers.push.Reads as answers_push
@@ -9,10 +14,12 @@ use Rattle.text.proofs.answers.put_natural.Kinds as answers-put-natural-kinds
 use Rattle.text.proofs.answers.put_natural.Reads as answers-put-natural
 use Rattle.text.proofs.answers.put_integer.Kinds as answers-put-integer-kinds
 use Rattle.text.proofs.answers.put_integer.Reads as answers-put-integer
+use Rattle.text.proofs.answers.U64Decimal.put_decimal.Kinds as answers-u64-put-decimal-kinds
+use Rattle.text.proofs.answers.U64Decimal.put_decimal.Reads as answers-u64-put-decimal
+use Rattle.text.proofs.answers.I64Decimal.put_decimal.Kinds as answers-i64-put-decimal-kinds
+use Rattle.text.proofs.answers.I64Decimal.put_decimal.Reads as answers-i64-put-decimal
 use Rattle.text.proofs.answers.put_line.Kinds as answers-put-line-kinds
 use Rattle.text.proofs.answers.put_line.Reads as answers-put-line
-use Rattle.text.proofs.answers.put_count.Kinds as answers-put-count-kinds
-use Rattle.text.proofs.answers.put_count.Reads as answers-put-count
 use Rattle.text.proofs.answers.put_answer.Kinds as answers-put-answer-kinds
 use Rattle.text.proofs.answers.put_answer.Reads as answers-put-answer
 use Rattle.text.proofs.answers.put_unreadable.Kinds as answers-put-unreadable-kinds
@@ -30,8 +37,9 @@ use Rattle.text.proofs.numbers.magnitude.Reads as numbers-magnitude
 use Rattle.text.proofs.numbers.number.Kinds as numbers-number-kinds
 use Rattle.text.proofs.numbers.number.Reads as numbers-number
 
-pub one_answers_push : OneAnswer answers-push-kinds.ps answers-push-kinds.r answers_push.Learnt
-one_answers_push κs a x y v w p q =
+-- at each type
+pub one_answers_push : (T : RattleType) (laws : Laws T) (copied : IsCopy T) (ghosts : CloneGhosts T.Denot) (dict : Dict) → OneAnswer (answers-push-kinds.ps T laws copied) (answers-push-kinds.r T laws copied) (answers_push.Learnt T laws copied ghosts dict)
+one_answers_push T laws copied ghosts dict κs a x y v w p q =
     let e = p ∙ sym q in
     (λ i. (e i).next, λ i. ((e i).held, (tt, (tt, tt))))
 
@@ -50,13 +58,18 @@ one_answers_put_integer κs a x y v w p q =
     let e = p ∙ sym q in
     (λ i. (e i).next, λ i. ((e i).held, (tt, (tt, tt))))
 
-pub one_answers_put_line : OneAnswer answers-put-line-kinds.ps answers-put-line-kinds.r answers-put-line.Learnt
-one_answers_put_line κs a x y v w p q =
+pub one_answers_u64_put_decimal : OneAnswer answers-u64-put-decimal-kinds.ps answers-u64-put-decimal-kinds.r answers-u64-put-decimal.Learnt
+one_answers_u64_put_decimal κs a x y v w p q =
     let e = p ∙ sym q in
-    (λ i. (e i).next, λ i. ((e i).held, (tt, (tt, (tt, tt)))))
+    (λ i. (e i).next, λ i. (tt, ((e i).held, (tt, tt))))
 
-pub one_answers_put_count : OneAnswer answers-put-count-kinds.ps answers-put-count-kinds.r answers-put-count.Learnt
-one_answers_put_count κs a x y v w p q =
+pub one_answers_i64_put_decimal : OneAnswer answers-i64-put-decimal-kinds.ps answers-i64-put-decimal-kinds.r answers-i64-put-decimal.Learnt
+one_answers_i64_put_decimal κs a x y v w p q =
+    let e = p ∙ sym q in
+    (λ i. (e i).next, λ i. (tt, ((e i).held, (tt, tt))))
+
+pub one_answers_put_line : (N : RattleType) (laws : Laws N) (ghosts : DecimalGhosts N.Denot) (dict : Dict) → OneAnswer (answers-put-line-kinds.ps N laws) (answers-put-line-kinds.r N laws) (answers-put-line.Learnt N laws ghosts dict)
+one_answers_put_line N laws ghosts dict κs a x y v w p q =
     let e = p ∙ sym q in
     (λ i. (e i).next, λ i. ((e i).held, (tt, (tt, (tt, tt)))))
 

@@ -1,21 +1,11 @@
 -- `text::lines::command_line` meets its contract. Assumes nothing.
-use borrow.Author.Rules.{rules}
-use mathlib.Core.Path.{sym, ap, ◌∙◌}
-use Prim.Native.Nat.{◌≤◌}
-use lib.ListN.{length}
+use mathlib.Core.Path.{ap, ◌∙◌}
 use Rattle.spelling.specs.Numbers.{spelled}
-use Rattle.spelling.specs.Lines.{command_key}
-use Rattle.spelling.proofs.LineLaws.{key_fits, command_keyed, command_unkeyed, rest_is}
+use Rattle.spelling.proofs.LineLaws.{command_keyed, command_unkeyed}
 use Rattle.text.proofs.lines.command_line.Goals as goal
 
-pub slice_bounds-number-count : goal.slice_bounds-number-count
-slice_bounds-number-count c = let k : 4 ≤ length c.args.s.now = key_fits command_key c.args.s.now (sym c.has_key.ensures ∙ c.if-has_key.true) in search rules
-
-pub slice_bounds-number-start : goal.slice_bounds-number-start
-slice_bounds-number-start c = let k : 4 ≤ length c.args.s.now = key_fits command_key c.args.s.now (sym c.has_key.ensures ∙ c.if-has_key.true) in search rules
-
-pub returns-then-has_key : goal.returns-then-has_key
-returns-then-has_key c = command_keyed _ c.has_key.ensures c.if-has_key.true (c.number.ensures ∙ ap spelled (rest_is c.args.s.now 4))
+pub returns-in_err-strip_prefix : goal.returns-in_err-strip_prefix
+returns-in_err-strip_prefix c = c.from_residual.ensures ∙ command_unkeyed _ c.in_err-strip_prefix.ensures.cases
 
 pub returns : goal.returns
-returns c = command_unkeyed _ c.has_key.ensures c.if-has_key.false
+returns c = c.number.ensures ∙ ap spelled c.in_ok-strip_prefix.ensures.cases.1 ∙ command_keyed _ c.in_ok-strip_prefix.ensures.cases.0

@@ -1,40 +1,33 @@
 -- `text::lines::count_of` meets its contract. Assumes nothing.
 use borrow.Author.Rules.{rules}
-use Rattle.spelling.proofs.LineLaws.{next_inside}
 use mathlib.Core.Path.{refl, sym, ◌∙◌}
 use native.Mathlib.Omega.{arith}
-use Rattle.spelling.proofs.LineLaws.{piece_inside, count_fault, count_last, count_next, count_end_lem}
+use Rattle.std.proofs.Common.{tests}
+use Rattle.std.proofs.lemmas.List.{length_push}
+use Rattle.std.proofs.lemmas.Iterator.Consumers.{YieldsList-turn, YieldsList-end}
+use Rattle.spelling.proofs.LineLaws.{at_spaces, pieces_few, count_fault, count_next, count_end}
 use Rattle.text.proofs.lines.count_of.Goals as goal
 
-pub loop-at-init : goal.loop-at-init
-loop-at-init c = (refl, omega arith, omega arith)
+pub loop-piece-init : goal.loop-piece-init
+loop-piece-init c = (refl, refl)
 
-pub slice_bounds-number-count : goal.slice_bounds-number-count
-slice_bounds-number-count c = let h = piece_inside c.args.s.now c.loop-at.at c.first-i.ensures in search rules
+pub returns-in_err-number : goal.returns-in_err-number
+returns-in_err-number c =
+    let t = YieldsList-turn (at_spaces _ c.args.s.now (cc) (cc) (cc) (λ x b q h. search (rules, tests))) c.loop-piece.yielded _ c.loop-piece.yielded_by _ _ c.in-Some.piece c.in-Some.is c.next.ensures.steps in
+    c.from_residual.ensures ∙ count_fault _ _ _ t _ c.number.ensures c.in_err-number.was ∙ sym c.loop-piece.invariant.0
 
-pub slice_bounds-number-start : goal.slice_bounds-number-start
-slice_bounds-number-start c = let h = piece_inside c.args.s.now c.loop-at.at c.first-i.ensures in search rules
+pub overflow_add-n : goal.overflow_add-n
+overflow_add-n c =
+    let t = YieldsList-turn (at_spaces _ c.args.s.now (cc) (cc) (cc) (λ x b q h. search (rules, tests))) c.loop-piece.yielded _ c.loop-piece.yielded_by _ _ c.in-Some.piece c.in-Some.is c.next.ensures.steps in
+    let k = pieces_few c.args.s.now in
+    search rules
 
-pub slice_bounds-number-end : goal.slice_bounds-number-end
-slice_bounds-number-end c = let h = piece_inside c.args.s.now c.loop-at.at c.first-i.ensures in search rules
-
-pub returns-in_default : goal.returns-in_default
-returns-in_default c = count_fault c.args.s.now c.loop-at.at c.first-i.ensures _ c.number.ensures c.in_default.is ∙ sym c.loop-at.invariant.0
-
-pub returns-then-rest-i : goal.returns-then-rest-i
-returns-then-rest-i c = count_last c.args.s.now c.loop-at.at c.first-i.ensures _ c.number.ensures _ c.in-Some.is c.if-rest-i.true ∙ sym c.loop-at.invariant.0
-
-pub overflow_add-at : goal.overflow_add-at
-overflow_add-at c = let h = next_inside c.args.s.now c.loop-at.at c.first-i.ensures c.if-rest-i.false in omega arith
-
-pub overflow_add-at-in-loop-at : goal.overflow_add-at-in-loop-at
-overflow_add-at-in-loop-at c = let h = next_inside c.args.s.now c.loop-at.at c.first-i.ensures c.if-rest-i.false in omega arith
-
-pub loop-at-smaller : goal.loop-at-smaller
-loop-at-smaller c = let h = next_inside c.args.s.now c.loop-at.at c.first-i.ensures c.if-rest-i.false in omega arith
-
-pub loop-at-preserved : goal.loop-at-preserved
-loop-at-preserved c = let h = next_inside c.args.s.now c.loop-at.at c.first-i.ensures c.if-rest-i.false in (c.loop-at.invariant.0 ∙ count_next c.args.s.now c.loop-at.at c.first-i.ensures _ c.number.ensures _ c.in-Some.is c.if-rest-i.false, omega arith, omega arith)
+pub loop-piece-preserved : goal.loop-piece-preserved
+loop-piece-preserved c =
+    let t = YieldsList-turn (at_spaces _ c.args.s.now (cc) (cc) (cc) (λ x b q h. search (rules, tests))) c.loop-piece.yielded _ c.loop-piece.yielded_by _ _ c.in-Some.piece c.in-Some.is c.next.ensures.steps in
+    rw length_push (c.loop-piece.invariant.0 ∙ count_next _ _ _ t _ c.number.ensures _ c.in_ok-number.was, omega arith)
 
 pub returns : goal.returns
-returns c = count_end_lem _ _ _ c.loop-at-test.false ∙ sym c.loop-at.invariant.0
+returns c =
+    let t = YieldsList-end (at_spaces _ c.args.s.now (cc) (cc) (cc) (λ x b q h. search (rules, tests))) c.loop-piece.yielded _ c.loop-piece.yielded_by _ _ c.in-None.is c.next.ensures.steps in
+    count_end _ _ t.1 _ ∙ sym c.loop-piece.invariant.0

@@ -5,8 +5,8 @@ use Rattle.spelling.specs.Buffers.{buffer}
 use Rattle.spelling.proofs.LineLaws.{stored_none, stored_some, rest_is}
 use Rattle.text.proofs.lines.store_pair.Goals as goal
 
-pub returns-then-s-le5 : goal.returns-then-s-le5
-returns-then-s-le5 c = ap (λ b. b.held) ((rw (to_z-of_z c.ranges.code) at c.push-to.ensures) ∙ sym (stored_none _ _ c.args.s.now c.if-s-le5.true))
+pub returns-else-s-gt5 : goal.returns-else-s-gt5
+returns-else-s-gt5 c = ap (λ b. b.held) ((rw (to_z-of_z c.ranges.code) at c.push-to.ensures) ∙ sym (stored_none _ _ c.args.s.now c.if-s-gt5.false))
 
-pub returns : goal.returns
-returns c = (rw (rest_is c.args.s.now 5) at c.store.ensures) ∙ ap (λ b. b.held) (sym (stored_some (buffer c.args.words.now 0) c.args.code c.args.s.now c.if-s-le5.false (rw (to_z-of_z c.ranges.code) at c.push-to.ensures)))
+pub returns-then-s-gt5 : goal.returns-then-s-gt5
+returns-then-s-gt5 c = (rw (rest_is c.args.s.now 5) at c.store.ensures) ∙ ap (λ b. b.held) (sym (stored_some (buffer c.args.words.now 0) c.args.code c.args.s.now c.if-s-gt5.true (rw (to_z-of_z c.ranges.code) at c.push-to.ensures)))

@@ -1,24 +1,17 @@
 -- `text::numbers::negative` meets its contract. Assumes nothing.
-use Prim.Native.Nat.{◌-◌}
+use borrow.Author.Rules.{rules}
 use native.Mathlib.Omega.{arith}
-use mir.Facts.{to_z-of_z}
-use Rattle.spelling.proofs.NumberLaws.{minus_fits, minus_word}
-use Rattle.spelling.proofs.NumberLaws.{minus_is, minus_zero, minus_over}
+use Rattle.spelling.proofs.NumberLaws.{minus_of}
 use Rattle.spelling.specs.Numbers.{minus}
 use Rattle.text.proofs.numbers.negative.Goals as goal
 
-pub returns-in_default : goal.returns-in_default
+pub returns-in_err-n : goal.returns-in_err-n
 unfolding minus
-returns-in_default c = rw c.in_default.is
+returns-in_err-n c = search rules
 
-pub returns-then-n-eq0 : goal.returns-then-n-eq0
-returns-then-n-eq0 c = rw c.in-Some.is (minus_zero _ c.if-n-eq0.true)
+pub returns-in-0 : goal.returns-in-0
+unfolding minus
+returns-in-0 c = search rules
 
-pub returns-then-n-gt9223372036854775808 : goal.returns-then-n-gt9223372036854775808
-returns-then-n-gt9223372036854775808 c = rw c.in-Some.is (minus_over _ c.if-n-gt9223372036854775808.true)
-
-pub overflow_sub-result-2 : goal.overflow_sub-result-2
-overflow_sub-result-2 c = minus_fits (c.in-Some.n - 1) (omega arith)
-
-pub returns : goal.returns
-returns c = rw (c.in-Some.is, to_z-of_z (minus_fits (c.in-Some.n - 1) (omega arith)), minus_word (c.in-Some.n - 1) (omega arith)) (minus_is _ c.if-n-eq0.false c.if-n-gt9223372036854775808.false)
+pub returns-in_default : goal.returns-in_default
+returns-in_default c = rw (c.in_ok-n.was) (minus_of c.in_ok-n.n _ (grind arith) c.checked_sub_unsigned.ensures)

@@ -1,18 +1,13 @@
 -- `text::numbers::positive` meets its contract. Assumes nothing.
-use native.Mathlib.Omega.{arith}
-use mir.Syntax.{w64}
-use mir.Facts.{to_z_pos}
-use Rattle.spelling.proofs.NumberLaws.{plus_is, plus_over}
+use borrow.Author.Rules.{rules}
+use mathlib.Core.Path.{◌∙◌}
+use Rattle.spelling.proofs.NumberLaws.{plus_of}
 use Rattle.spelling.specs.Numbers.{plus}
-use Rattle.std.proofs.Common.{w64}
 use Rattle.text.proofs.numbers.positive.Goals as goal
 
-pub returns-in_default : goal.returns-in_default
+pub returns-in_err-d : goal.returns-in_err-d
 unfolding plus
-returns-in_default c = rw c.in_default.is
-
-pub returns-then-n-gt9223372036854775807 : goal.returns-then-n-gt9223372036854775807
-returns-then-n-gt9223372036854775807 c = rw c.in-Some.is (plus_over _ c.if-n-gt9223372036854775807.true)
+returns-in_err-d c = search rules
 
 pub returns : goal.returns
-returns c = rw (c.in-Some.is, to_z_pos w64 {n = c.in-Some.n} (omega arith)) (plus_is _ c.if-n-gt9223372036854775807.false)
+returns c = rw (c.in_ok-d.was) (c.ok.ensures.value ∙ plus_of c.in_ok-d.field-0 _ c.try_from.ensures)
