@@ -40,7 +40,7 @@ pub(crate) struct Source<R> {
 }
 
 impl<R: Read + Drop> Source<R> {
-    pub fn new(from: R) -> Self {
+    pub(crate) fn new(from: R) -> Self {
         Source {
             from,
             buf: [0; 16384],
@@ -99,7 +99,7 @@ impl<R: Read + Drop> Source<R> {
     }
 
     // A table of n words, at the front of the room for it.
-    pub fn table<'t, T: Word>(
+    pub(crate) fn table<'t, T: Word>(
         &mut self,
         rt: &impl Eprint,
         room: &'t mut [T],
@@ -110,7 +110,7 @@ impl<R: Read + Drop> Source<R> {
         Ok(t)
     }
 
-    pub fn lengths(&mut self, rt: &impl Eprint) -> Result<Sizes, Stop> {
+    pub(crate) fn lengths(&mut self, rt: &impl Eprint) -> Result<Sizes, Stop> {
         let nodes = length(self.word(rt)?);
         let mut rest = [0; 5];
         self.fill(rt, &mut rest)?;

@@ -4,7 +4,7 @@ use crate::word::Word;
 use engine::command::Answer;
 use std::io;
 use stream::{Sink, send, spill};
-use text::answers::{push, put_all, put_line};
+use text::answers::{Decimal, push, put_all, put_line};
 
 // A buffer before the standard output.
 #[derive(Drop)]
@@ -15,7 +15,7 @@ pub(crate) struct Page<'a, P> {
 }
 
 impl<'a, P: Print + Eprint> Page<'a, P> {
-    pub fn new(rt: &'a P) -> Self {
+    pub(crate) fn new(rt: &'a P) -> Self {
         Page {
             rt,
             out: [0; 8192],
@@ -32,13 +32,13 @@ impl<'a, P: Print + Eprint> Page<'a, P> {
         self.sink.at = push(&mut self.out, self.sink.at, b);
     }
 
-    pub fn answer(&mut self, answer: Answer) {
+    pub(crate) fn answer(&mut self, answer: Answer) {
         let a = put_line(&mut self.out, self.sink.at, b"code=", answer.code);
         let b = put_line(&mut self.out, a, b"value=", answer.value);
         self.sink.at = put_line(&mut self.out, b, b"runs=", answer.runs);
     }
 
-    pub fn table<T: Word>(&mut self, key: &[u8], t: &[T]) {
+    pub(crate) fn table<T: Word>(&mut self, key: &[u8], t: &[T]) {
         self.spill();
         self.sink.at = put_all(&mut self.out, self.sink.at, key);
         for (i, word) in t.iter().enumerate() {
@@ -46,12 +46,12 @@ impl<'a, P: Print + Eprint> Page<'a, P> {
             if i > 0 {
                 self.push(b' ');
             }
-            self.sink.at = word.put(&mut self.out, self.sink.at);
+            self.sink.at = word.put_decimal(&mut self.out, self.sink.at);
         }
         self.push(b'\n');
     }
 
-    pub fn sent(&self) -> Result<(), Stop> {
+    pub(crate) fn sent(&self) -> Result<(), Stop> {
         if send(self.rt, &mut io::writer(self.rt), &self.out, self.sink.at) && self.sink.ok {
             Ok(())
         } else {

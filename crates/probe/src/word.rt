@@ -1,13 +1,10 @@
-// The words of tables: how a block spells one, and how it is printed.
+// The words of tables, and how a block spells one.
 use std::str;
-use text::answers::{put_integer, put_natural};
+use text::answers::Decimal;
 use text::numbers::number;
 
-pub(crate) trait Word: Copy + Drop {
+pub(crate) trait Word: Decimal + Copy + Drop {
     fn spelled(text: &[u8]) -> Option<Self>;
-
-    // Puts the word at out[at]; answers the next place.
-    fn put(self, out: &mut [u8], at: usize) -> usize;
 }
 
 impl Word for u64 {
@@ -19,18 +16,10 @@ impl Word for u64 {
             None
         }
     }
-
-    fn put(self, out: &mut [u8], at: usize) -> usize {
-        put_natural(out, at, self)
-    }
 }
 
 impl Word for i64 {
     fn spelled(text: &[u8]) -> Option<i64> {
         number(text)
-    }
-
-    fn put(self, out: &mut [u8], at: usize) -> usize {
-        put_integer(out, at, self)
     }
 }
