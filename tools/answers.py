@@ -166,6 +166,8 @@ def proof(crate, module, head, text):
     if not got:
         return None
     m = re.match(r"(?:<[^>]*>)?\((.*?)\) ?(?:-> ([&'\w\[\]<> ]+?) )?ensures", head)
+    if not m:
+        return None
     params = [x.strip() for x in m.group(1).split(',') if x.strip()]
     answers = m.group(2)
     found, lets = {}, []
