@@ -9,6 +9,12 @@ use lib.Dec.{eqb}
 use lib.IntN.{ℤ, pos}
 use lib.ListN.{length}
 use borrow.Author.Tests.{eq-eqb, ne_eqb, lt-ltb, le-ltb}
+use Rattle.std.specs.Prelude.{Option, Some}
+use Rattle.primitive.specs.declared.kinds.Kind.{Kind}
+use Rattle.primitive.specs.declared.kinds.Kind.TheVariants.{Signal, Computed}
+use Rattle.primitive.specs.Kinds.{kind_word}
+use Rattle.primitive.specs.Kinds as kinds
+use Rattle.primitive.proofs.KindLaws.{word_kind, kind_is}
 use Rattle.primitive.specs.declared.slots.Slot.{Slot}
 use Rattle.primitive.specs.declared.slots.Slot.TheVariants.{At, Nothing}
 use Rattle.values.specs.declared.Value.{Value}
@@ -130,30 +136,40 @@ module _ (ws : List ℤ) (r : Ring) (s : State) (n : ℕ) where
   unfolding updated_computed_by
   update_worked e b i g h f = rw (← i, ← g, ← h) f
 
-  module _ {x : ℕ} (k : x ≡ kind_of s n) where
-    pub updated_the_signal : {t : Told} → x ≡ 1 → t ≡ updated_signal s n → t ≡ updated_by ws r s n
+  -- the kind that the code finds, o, is what the kind's word x says
+  module _ {x : ℕ} (k : x ≡ kind_of s n) {o : Option Kind} (q : o ≡ kinds.kind_of x) where
+    is_kind : {v : Kind} (w : Kind) → o ≡ Some v → v ≡ w → eqb (kind_of s n) (kind_word w) ≡ true
+    is_kind w e g = eq-eqb _ _ (sym k ∙ kind_is x w (sym q ∙ e ∙ ap Some g))
+
+    is_no_kind : (w : Kind) → (o ≡ Some w → ⊥) → eqb (kind_of s n) (kind_word w) ≡ false
+    is_no_kind w f = ne_eqb _ _ (λ e. f (q ∙ ap kinds.kind_of (k ∙ e) ∙ word_kind w))
+
+    no_signal : {v : Kind} → o ≡ Some v → v ≡ Computed → o ≡ Some Signal → ⊥
+    no_signal e g h = cc
+
+    pub updated_the_signal : {v : Kind} {t : Told} → o ≡ Some v → v ≡ Signal → t ≡ updated_signal s n → t ≡ updated_by ws r s n
     unfolding updated_by
-    updated_the_signal e g = rw (eq-eqb _ _ (sym k ∙ e), updated_by) g
+    updated_the_signal e v g = rw (is_kind Signal e v, updated_by) g
 
-    pub updated_computed : {t : Told} → (x ≡ 1 → ⊥) → x ≡ 2 → t ≡ updated_computed_by ws r s n → t ≡ updated_by ws r s n
+    pub updated_computed : {v : Kind} {t : Told} → o ≡ Some v → v ≡ Computed → t ≡ updated_computed_by ws r s n → t ≡ updated_by ws r s n
     unfolding updated_by
-    updated_computed f e g = rw (ne_eqb _ _ (λ q. f (k ∙ q)), eq-eqb _ _ (sym k ∙ e), updated_by) g
+    updated_computed e v g = rw (is_no_kind Signal (no_signal e v), is_kind Computed e v, updated_by) g
 
-    pub updated_other : (x ≡ 1 → ⊥) → (x ≡ 2 → ⊥) → told false s ≡ updated_by ws r s n
+    pub updated_other : (o ≡ Some Signal → ⊥) → (o ≡ Some Computed → ⊥) → told false s ≡ updated_by ws r s n
     unfolding updated_by
-    updated_other f g = rw (ne_eqb _ _ (λ q. f (k ∙ q)), ne_eqb _ _ (λ q. g (k ∙ q)), updated_by)
+    updated_other f g = rw (is_no_kind Signal f, is_no_kind Computed g, updated_by)
 
-    pub refreshed_signal_lem : {t : State} → x ≡ 1 → t ≡ refreshed_signal s n → t ≡ refreshed_by ws r s n
+    pub refreshed_signal_lem : {v : Kind} {t : State} → o ≡ Some v → v ≡ Signal → t ≡ refreshed_signal s n → t ≡ refreshed_by ws r s n
     unfolding refreshed_by
-    refreshed_signal_lem e g = rw (eq-eqb _ _ (sym k ∙ e), refreshed_by) g
+    refreshed_signal_lem e v g = rw (is_kind Signal e v, refreshed_by) g
 
-    pub refreshed_computed : {t : State} → (x ≡ 1 → ⊥) → x ≡ 2 → t ≡ refreshed_computed_by ws r s n → t ≡ refreshed_by ws r s n
+    pub refreshed_computed : {v : Kind} {t : State} → o ≡ Some v → v ≡ Computed → t ≡ refreshed_computed_by ws r s n → t ≡ refreshed_by ws r s n
     unfolding refreshed_by
-    refreshed_computed f e g = rw (ne_eqb _ _ (λ q. f (k ∙ q)), eq-eqb _ _ (sym k ∙ e), refreshed_by) g
+    refreshed_computed e v g = rw (is_no_kind Signal (no_signal e v), is_kind Computed e v, refreshed_by) g
 
-    pub refreshed_other : (x ≡ 1 → ⊥) → (x ≡ 2 → ⊥) → s ≡ refreshed_by ws r s n
+    pub refreshed_other : (o ≡ Some Signal → ⊥) → (o ≡ Some Computed → ⊥) → s ≡ refreshed_by ws r s n
     unfolding refreshed_by
-    refreshed_other f g = rw (ne_eqb _ _ (λ q. f (k ∙ q)), ne_eqb _ _ (λ q. g (k ∙ q)), refreshed_by)
+    refreshed_other f g = rw (is_no_kind Signal f, is_no_kind Computed g, refreshed_by)
 
 -- ---- the dirty check
 module _ (ws : List ℤ) (r : Ring) (s : State) (m : ℕ) where

@@ -18,7 +18,8 @@ use formula::cells::{cell_at, end};
 use formula::legal::MOST_NESTING;
 use links::link::link;
 use marks::nodes::{flags, set_flags};
-use primitive::rows::{COMPUTED, DEP, DEPS, KIND, LINK, NEXT_DEP, NODE, SIGNAL, START};
+use primitive::kinds::Kind;
+use primitive::rows::{DEP, DEPS, KIND, LINK, NEXT_DEP, NODE, START};
 use primitive::slots::Slot;
 use primitive::{slots, words};
 use trees::cells::{Cell, Op};
@@ -83,13 +84,10 @@ pub fn evaluate(
             value: Value::of(k),
             next: at + 1,
         },
-        Cell::Read(m) => {
-            let value = read_for(nodes, links, values, cells, n, m);
-            Worked {
-                value,
-                next: at + 1,
-            }
-        }
+        Cell::Read(m) => Worked {
+            value: read_for(nodes, links, values, cells, n, m),
+            next: at + 1,
+        },
         Cell::Two(op) => evaluate_two(nodes, links, values, cells, n, at + 1, depth - 1, op),
         Cell::Choose => evaluate_choose(nodes, links, values, cells, n, at + 1, depth - 1),
         Cell::Bad => nothing(at),
@@ -196,13 +194,10 @@ fn update_computed(
 fn update(nodes: &mut [u64], links: &mut [u64], values: &mut [i64], cells: &[i64], n: u64) -> bool
     ensures { Enough cells.now n (λ b. updated_by cells.now b (state nodes.old links.old values.old) n) (told result (state nodes.new links.new values.new)) }
 {
-    let kind = words::get(nodes, NODE, n, KIND);
-    if kind == SIGNAL {
-        update_signal(nodes, values, n)
-    } else if kind == COMPUTED {
-        update_computed(nodes, links, values, cells, n)
-    } else {
-        false
+    match Kind::of_word(words::get(nodes, NODE, n, KIND)) {
+        Some(Kind::Signal) => update_signal(nodes, values, n),
+        Some(Kind::Computed) => update_computed(nodes, links, values, cells, n),
+        Some(Kind::Effect | Kind::Scope) | None => false,
     }
 }
 
@@ -348,10 +343,9 @@ fn refresh_computed(nodes: &mut [u64], links: &mut [u64], values: &mut [i64], ce
 pub fn refresh(nodes: &mut [u64], links: &mut [u64], values: &mut [i64], cells: &[i64], n: u64)
     ensures { Enough cells.now n (λ b. refreshed_by cells.now b (state nodes.old links.old values.old) n) (state nodes.new links.new values.new) }
 {
-    let kind = words::get(nodes, NODE, n, KIND);
-    if kind == SIGNAL {
-        refresh_signal(nodes, links, values, n);
-    } else if kind == COMPUTED {
-        refresh_computed(nodes, links, values, cells, n);
+    match Kind::of_word(words::get(nodes, NODE, n, KIND)) {
+        Some(Kind::Signal) => refresh_signal(nodes, links, values, n),
+        Some(Kind::Computed) => refresh_computed(nodes, links, values, cells, n),
+        Some(Kind::Effect | Kind::Scope) | None => {}
     }
 }

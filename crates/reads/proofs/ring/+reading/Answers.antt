@@ -4,6 +4,9 @@ use mathlib.Core.Path.{◌≡◌, refl, ap, ◌∙◌}
 use Prim.Native.Nat.{◌-◌, ◌+◌, ◌/◌}
 use lib.ListN.{length}
 use Rattle.std.proofs.lemmas.Bool.{le-ltb}
+use Rattle.std.proofs.lemmas.Grind.{common_steps}
+use Rattle.std.proofs.Common.{Some}
+use Rattle.primitive.specs.declared.kinds.Kind.TheVariants.{Signal, Computed}
 use Rattle.std.proofs.Math.Nat.{sub-zero}
 use mir.Facts.{to_z-of_z}
 use mir.Syntax.{w64}
@@ -106,7 +109,7 @@ evaluate-returns-in-Constant t c k h =
 
 pub evaluate-returns-in-Read : goal.evaluate-returns-in-Read
 evaluate-returns-in-Read t c k h =
-    worked_read _ _ _ _ _ _ c.if-depth-eq0.false c.cell_at.ensures _ c.in-Read.is (c.read_for-value.ensures k h)
+    worked_read _ _ _ _ _ _ c.if-depth-eq0.false c.cell_at.ensures _ c.in-Read.is (c.read_for.ensures k h)
 
 pub evaluate-returns-in-Two : goal.evaluate-returns-in-Two
 evaluate-returns-in-Two t c k h =
@@ -144,17 +147,21 @@ pub read_for-returns-else-rank : goal.read_for-returns-else-rank
 read_for-returns-else-rank t c k h =
     read_not _ _ _ _ c.rank.ensures c.rank-2.ensures c.if-rank.false c.of.ensures
 
-pub refresh-returns-then-kind-eq-SIGNAL : goal.refresh-returns-then-kind-eq-SIGNAL
-refresh-returns-then-kind-eq-SIGNAL t c k h =
-    refreshed_signal_lem _ _ _ _ c.get-kind.ensures c.if-kind-eq-SIGNAL.true c.refresh_signal.ensures
+pub refresh-returns-in-Some-Signal : goal.refresh-returns-in-Some-Signal
+refresh-returns-in-Some-Signal t c k h =
+    refreshed_signal_lem _ _ _ _ c.get.ensures c.of_word.ensures.kind c.in-Some-Signal.is c.in-Some-Signal.field-0-is c.refresh_signal.ensures
 
-pub refresh-returns-then-kind-eq-COMPUTED : goal.refresh-returns-then-kind-eq-COMPUTED
-refresh-returns-then-kind-eq-COMPUTED t c k h =
-    refreshed_computed _ _ _ _ c.get-kind.ensures c.if-kind-eq-SIGNAL.false c.if-kind-eq-COMPUTED.true (c.refresh_computed.ensures k h)
+pub refresh-returns-in-Some-Computed : goal.refresh-returns-in-Some-Computed
+refresh-returns-in-Some-Computed t c k h =
+    refreshed_computed _ _ _ _ c.get.ensures c.of_word.ensures.kind c.in-Some-Computed.is c.in-Some-Computed.field-0-is (c.refresh_computed.ensures k h)
 
-pub refresh-returns-else-kind-eq-COMPUTED : goal.refresh-returns-else-kind-eq-COMPUTED
-refresh-returns-else-kind-eq-COMPUTED t c k h =
-    refreshed_other _ _ _ _ c.get-kind.ensures c.if-kind-eq-SIGNAL.false c.if-kind-eq-COMPUTED.false
+pub refresh-returns : goal.refresh-returns
+refresh-returns t c k h =
+    refreshed_other _ _ _ _ c.get.ensures c.of_word.ensures.kind (grind (arith, common_steps)) (grind (arith, common_steps))
+
+pub refresh-returns-2 : goal.refresh-returns-2
+refresh-returns-2 t c k h =
+    refreshed_other _ _ _ _ c.get.ensures c.of_word.ensures.kind (grind (arith, common_steps)) (grind (arith, common_steps))
 
 pub refresh_computed-returns-then-has : goal.refresh_computed-returns-then-has
 refresh_computed-returns-then-has t c k h =
@@ -196,17 +203,21 @@ pub settle-returns-else-changed : goal.settle-returns-else-changed
 settle-returns-else-changed t c k h =
     rw c.if-changed.false (settle_same _ _ _ _ _ (c.update-changed.ensures k h) c.if-changed.false)
 
-pub update-returns-then-kind-eq-SIGNAL : goal.update-returns-then-kind-eq-SIGNAL
-update-returns-then-kind-eq-SIGNAL t c k h =
-    updated_the_signal _ _ _ _ c.get-kind.ensures c.if-kind-eq-SIGNAL.true (c.update_signal.ensures _)
+pub update-returns-in-Some-Signal : goal.update-returns-in-Some-Signal
+update-returns-in-Some-Signal t c k h =
+    updated_the_signal _ _ _ _ c.get.ensures c.of_word.ensures.kind c.in-Some-Signal.is c.in-Some-Signal.field-0-is (c.update_signal.ensures _)
 
-pub update-returns-then-kind-eq-COMPUTED : goal.update-returns-then-kind-eq-COMPUTED
-update-returns-then-kind-eq-COMPUTED t c k h =
-    updated_computed _ _ _ _ c.get-kind.ensures c.if-kind-eq-SIGNAL.false c.if-kind-eq-COMPUTED.true (c.update_computed.ensures k h)
+pub update-returns-in-Some-Computed : goal.update-returns-in-Some-Computed
+update-returns-in-Some-Computed t c k h =
+    updated_computed _ _ _ _ c.get.ensures c.of_word.ensures.kind c.in-Some-Computed.is c.in-Some-Computed.field-0-is (c.update_computed.ensures k h)
 
-pub update-returns-else-kind-eq-COMPUTED : goal.update-returns-else-kind-eq-COMPUTED
-update-returns-else-kind-eq-COMPUTED t c k h =
-    updated_other _ _ _ _ c.get-kind.ensures c.if-kind-eq-SIGNAL.false c.if-kind-eq-COMPUTED.false
+pub update-returns-in-Some-Effect : goal.update-returns-in-Some-Effect
+update-returns-in-Some-Effect t c k h =
+    updated_other _ _ _ _ c.get.ensures c.of_word.ensures.kind (grind (arith, common_steps)) (grind (arith, common_steps))
+
+pub update-returns-in-Some-Effect-2 : goal.update-returns-in-Some-Effect-2
+update-returns-in-Some-Effect-2 t c k h =
+    updated_other _ _ _ _ c.get.ensures c.of_word.ensures.kind (grind (arith, common_steps)) (grind (arith, common_steps))
 
 pub update_computed-returns : goal.update_computed-returns
 update_computed-returns t c k h =
