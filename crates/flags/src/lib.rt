@@ -36,6 +36,24 @@ impl Flags {
 
     pub const PENDING: Flags = Flags { bits: 32 };
 
+    // A node whose dependency has changed, and one whose dependency may have.
+    pub const STALE: Flags = Flags {
+        bits: Flags::MUTABLE.bits | Flags::DIRTY.bits,
+    };
+
+    pub const UNSURE: Flags = Flags {
+        bits: Flags::MUTABLE.bits | Flags::PENDING.bits,
+    };
+
+    // A computed while its formula is evaluated, and an effect while it runs.
+    pub const EVALUATING: Flags = Flags {
+        bits: Flags::MUTABLE.bits | Flags::RECURSED_CHECK.bits,
+    };
+
+    pub const RUNNING: Flags = Flags {
+        bits: Flags::WATCHING.bits | Flags::RECURSED_CHECK.bits,
+    };
+
     // A table word holds the flags in its low byte. A method and no From: what the word has above that byte is lost.
     pub fn of_word(w: u64) -> Flags
         ensures { result.bits ≡ w % 256 }
@@ -83,6 +101,20 @@ impl Flags {
         Flags {
             bits: self.bits & !less.bits,
         }
+    }
+
+    // Whether one of these bits is set.
+    pub fn has(self, some: Flags) -> bool
+        ensures { result ≡ not (eqb (bit_and self.bits some.bits) 0) }
+    {
+        self.mask(some).is_nonzero()
+    }
+
+    // Whether all of these bits are set.
+    pub fn has_all(self, all: Flags) -> bool
+        ensures { result ≡ eqb (bit_and self.bits all.bits) all.bits }
+    {
+        self.mask(all) == all
     }
 
     pub fn names(self) -> Named

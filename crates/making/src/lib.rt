@@ -12,7 +12,7 @@ use formula::scans::{height, read_cells};
 use links::link::link;
 use operating::making::Sort;
 use operations::log::write_row;
-use operations::runs::{RUNNING, end_run};
+use operations::runs::end_run;
 use primitive::rows::{
     CELLS, COMPUTED, COUNT, DEPS, DEPS_TAIL, EFFECT, FLAGS, GONE, KIND, LEVEL, NODE, OWNER, READS,
     SCOPE, SIGNAL, START, SUBS, SUBS_TAIL, USED,
@@ -199,7 +199,7 @@ pub fn new_effect(
 {
     let sort = Sort {
         kind: EFFECT,
-        flags: RUNNING,
+        flags: Flags::RUNNING,
         owner: owner,
         level: depth_under(nodes, owner),
     };

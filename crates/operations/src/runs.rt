@@ -12,12 +12,7 @@ use primitive::rows::{DEPS_TAIL, NODE};
 use primitive::words;
 use reads::cycle::raise_cycle;
 use reads::read::{check_dirty, evaluate};
-use reads::tests::has;
 use values::Value;
-
-pub const RUNNING: Flags = Flags {
-    bits: Flags::WATCHING.bits | Flags::RECURSED_CHECK.bits,
-};
 
 // A rerun is in a new cycle, and no dependency is reached yet.
 fn begin(nodes: &mut [u64], links: &mut [u64], e: u64)
@@ -25,7 +20,7 @@ fn begin(nodes: &mut [u64], links: &mut [u64], e: u64)
 {
     raise_cycle(links);
     words::store(nodes, NODE, e, DEPS_TAIL, 0);
-    set_flags(nodes, e, RUNNING);
+    set_flags(nodes, e, Flags::RUNNING);
 }
 
 // The run of e is over; it watches.
@@ -58,13 +53,8 @@ fn must_run(nodes: &mut [u64], links: &mut [u64], values: &mut [i64], cells: &[i
     ensures { told result (state nodes.new links.new values.new) ≡ must_run cells.now (state nodes.old links.old values.old) e }
 {
     let flags = flags(nodes, e);
-    if has(flags, Flags::DIRTY) {
-        return true;
-    }
-    if has(flags, Flags::PENDING) {
-        return check_dirty(nodes, links, values, cells, e);
-    }
-    false
+    flags.has(Flags::DIRTY)
+        || flags.has(Flags::PENDING) && check_dirty(nodes, links, values, cells, e)
 }
 
 // An effect from the queue runs if it has to, and puts its row at the front of the log. The answer is how many rows that is.

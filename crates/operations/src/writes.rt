@@ -15,10 +15,6 @@ use primitive::{slots, words};
 use reads::places;
 use values::Value;
 
-const STALE: Flags = Flags {
-    bits: Flags::MUTABLE.bits | Flags::DIRTY.bits,
-};
-
 // Nothing happens where v is the pending value already. Else the signal is stale, what depends on it is told, and outside of batches a flush follows.
 pub fn set(
     nodes: &mut [u64],
@@ -35,7 +31,7 @@ pub fn set(
         return 0;
     }
     places::keep_pending(values, n, v);
-    set_flags(nodes, n, STALE);
+    set_flags(nodes, n, Flags::STALE);
     let Slot::At(s) = slots::open(words::get(nodes, NODE, n, SUBS)) else {
         return 0;
     };

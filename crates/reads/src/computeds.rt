@@ -12,15 +12,11 @@ use primitive::rows::{DEPS_TAIL, NODE};
 use primitive::words;
 use values::Value;
 
-const EVALUATING: Flags = Flags {
-    bits: Flags::MUTABLE.bits | Flags::RECURSED_CHECK.bits,
-};
-
 // A first evaluation is in the cycle at hand.
 pub fn begin_first(nodes: &mut [u64], n: u64)
     ensures { nodes.new ≡ begun_first nodes.old n }
 {
-    set_flags(nodes, n, EVALUATING);
+    set_flags(nodes, n, Flags::EVALUATING);
 }
 
 // A re-evaluation is in a new cycle, and no dependency is reached yet.

@@ -9,5 +9,4 @@ pub mod rank;
 pub mod read;
 mod ring;
 mod signals;
-pub mod tests;
 mod wakes;

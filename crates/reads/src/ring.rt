@@ -11,7 +11,6 @@ use crate::cycle::cycle;
 use crate::places::current;
 use crate::rank::rank;
 use crate::signals::{refresh_signal, update_signal};
-use crate::tests::{has, has_all};
 use crate::wakes::{wake, wake_others};
 use flags::Flags;
 use formula::cells::{cell_at, end};
@@ -24,14 +23,6 @@ use primitive::slots::Slot;
 use primitive::{slots, words};
 use trees::cells::{Cell, Op};
 use values::Value;
-
-const STALE: Flags = Flags {
-    bits: Flags::MUTABLE.bits | Flags::DIRTY.bits,
-};
-
-const UNSURE: Flags = Flags {
-    bits: Flags::MUTABLE.bits | Flags::PENDING.bits,
-};
 
 // What an expression is worth, and the cell after it.
 #[derive(Clone, Copy)]
@@ -244,9 +235,9 @@ fn check_dependency(
     ensures { Below cells.now m (λ b. dependency_by cells.now b (state nodes.old links.old values.old) m) (told result (state nodes.new links.new values.new)) }
 {
     let flags = flags(nodes, m);
-    if has_all(flags, STALE) {
+    if flags.has_all(Flags::STALE) {
         settle(nodes, links, values, cells, m)
-    } else if has_all(flags, UNSURE) {
+    } else if flags.has_all(Flags::UNSURE) {
         check_pending(nodes, links, values, cells, m)
     } else {
         false
@@ -265,7 +256,7 @@ fn dirty_by(
 ) -> bool
     ensures { Enough cells.now n (λ b. dirty_by cells.now b (state nodes.old links.old values.old) n m) (told result (state nodes.new links.new values.new)) }
 {
-    has(flags(nodes, n), Flags::DIRTY)
+    flags(nodes, n).has(Flags::DIRTY)
         || rank(m) < rank(n) && check_dependency(nodes, links, values, cells, m)
 }
 
@@ -329,9 +320,9 @@ fn refresh_computed(nodes: &mut [u64], links: &mut [u64], values: &mut [i64], ce
     ensures { Enough cells.now n (λ b. refreshed_computed_by cells.now b (state nodes.old links.old values.old) n) (state nodes.new links.new values.new) }
 {
     let flags = flags(nodes, n);
-    if has(flags, Flags::DIRTY) {
+    if flags.has(Flags::DIRTY) {
         renew(nodes, links, values, cells, n);
-    } else if has(flags, Flags::PENDING) {
+    } else if flags.has(Flags::PENDING) {
         refresh_pending(nodes, links, values, cells, n, flags);
     } else if flags.is_zero() {
         evaluate_first(nodes, links, values, cells, n);

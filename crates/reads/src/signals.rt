@@ -4,7 +4,6 @@ ghost use Rattle.reading.specs.Tables.{state, told};
 ghost use Rattle.reading.specs.Steps.{updated_signal, refreshed_signal};
 
 use crate::places;
-use crate::tests::has;
 use crate::wakes::wake;
 use flags::Flags;
 use marks::nodes::{flags, set_flags};
@@ -24,7 +23,7 @@ pub fn update_signal(nodes: &mut [u64], values: &mut [i64], n: u64) -> bool
 pub fn refresh_signal(nodes: &mut [u64], links: &[u64], values: &mut [i64], n: u64)
     ensures { state nodes.new links.now values.new ≡ refreshed_signal (state nodes.old links.now values.old) n }
 {
-    if has(flags(nodes, n), Flags::DIRTY) && update_signal(nodes, values, n) {
+    if flags(nodes, n).has(Flags::DIRTY) && update_signal(nodes, values, n) {
         wake(nodes, links, n);
     }
 }

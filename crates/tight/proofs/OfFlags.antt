@@ -13,6 +13,10 @@ use Rattle.flags.proofs.Flags.mask.Kinds as mask-kinds
 use Rattle.flags.proofs.Flags.mask.Reads as mask
 use Rattle.flags.proofs.Flags.clear.Kinds as clear-kinds
 use Rattle.flags.proofs.Flags.clear.Reads as clear
+use Rattle.flags.proofs.Flags.has.Kinds as has-kinds
+use Rattle.flags.proofs.Flags.has.Reads as has
+use Rattle.flags.proofs.Flags.has_all.Kinds as has-all-kinds
+use Rattle.flags.proofs.Flags.has_all.Reads as has-all
 use Rattle.flags.proofs.Flags.names.Kinds as names-kinds
 use Rattle.flags.proofs.Flags.names.Reads as names
 
@@ -36,3 +40,9 @@ one_clear κs a x y v w p q = (λ i. record { bits = (p ∙ sym q) i }, refl)
 
 pub one_names : OneAnswer names-kinds.ps names-kinds.r names.Learnt
 one_names κs a x y v w p q = (p ∙ sym q, refl)
+
+pub one_has : OneAnswer has-kinds.ps has-kinds.r has.Learnt
+one_has κs a x y v w p q = (p ∙ sym q, refl)
+
+pub one_has_all : OneAnswer has-all-kinds.ps has-all-kinds.r has-all.Learnt
+one_has_all κs a x y v w p q = (p ∙ sym q, refl)

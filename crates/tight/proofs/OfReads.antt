@@ -21,10 +21,6 @@ use Rattle.reads.proofs.read.check_dirty.Kinds as read-check-dirty-kinds
 use Rattle.reads.proofs.read.check_dirty.Reads as read-check-dirty
 use Rattle.reads.proofs.read.evaluate.Kinds as read-evaluate-kinds
 use Rattle.reads.proofs.read.evaluate.Reads as read-evaluate
-use Rattle.reads.proofs.tests.has.Kinds as tests-has-kinds
-use Rattle.reads.proofs.tests.has.Reads as tests-has
-use Rattle.reads.proofs.tests.has_all.Kinds as tests-has-all-kinds
-use Rattle.reads.proofs.tests.has_all.Reads as tests-has-all
 
 pub one_cycle_cycle : OneAnswer cycle-cycle-kinds.ps cycle-cycle-kinds.r cycle-cycle.Learnt
 one_cycle_cycle κs a x y v w p q = (λ i. record { cycle = (p ∙ sym q) i }, refl)
@@ -61,9 +57,3 @@ pub one_read_evaluate : OneAnswer read-evaluate-kinds.ps read-evaluate-kinds.r r
 one_read_evaluate κs a x y v w p q =
     let e = p ∙ sym q in
     (λ i. (e i).value, λ i. ((e i).after.nodes, ((e i).after.links, ((e i).after.values, (tt, (tt, tt))))))
-
-pub one_tests_has : OneAnswer tests-has-kinds.ps tests-has-kinds.r tests-has.Learnt
-one_tests_has κs a x y v w p q = (p ∙ sym q, refl)
-
-pub one_tests_has_all : OneAnswer tests-has-all-kinds.ps tests-has-all-kinds.r tests-has-all.Learnt
-one_tests_has_all κs a x y v w p q = (p ∙ sym q, refl)

@@ -13,20 +13,24 @@ use mir.Syntax.{w64}
 use mir.Val.{to_z, of_z}
 use Rattle.values.specs.Values.{value}
 use native.Mathlib.Omega.{arith}
+use Rattle.marking.specs.Fields.{has, has_only}
 use Rattle.reading.specs.Tables.{state}
 use Rattle.reading.specs.Ring.{checked_by, ring_n}
 use Rattle.reading.proofs.RingLaws.{lower_refresh, lower_check, worked_none, worked_constant, worked_read, worked_two, worked_choose, worked_bad, constant_inside, read_inside, two_inside, choose_inside, read_lower, read_not, two_worked, choose_third, choose_second, first_worked, update_worked, updated_the_signal, updated_computed, updated_other, refreshed_signal_lem, refreshed_computed, refreshed_other, settle_changed, settle_same, pending_changed, pending_same, dependency_stale, dependency_unsure, dependency_clean, dirty_already, dirty_dependency, dirty_not, deps_out, deps_end, deps_changed, deps_same, renew_changed, renew_same, surely_changed, surely_same, computed_dirty, computed_pending, computed_first, computed_clean}
 use Rattle.reads.proofs.ring.+reading.Goals as goal
 
 pub check_dependency-returns-then-has_all : goal.check_dependency-returns-then-has_all
+unfolding has_only
 check_dependency-returns-then-has_all t c k h =
     dependency_stale _ _ _ _ c.flags-flags.ensures c.has_all.ensures c.if-has_all.true (c.settle.ensures k (omega arith))
 
 pub check_dependency-returns-then-has_all-2 : goal.check_dependency-returns-then-has_all-2
+unfolding has_only
 check_dependency-returns-then-has_all-2 t c k h =
     dependency_unsure _ _ _ _ c.flags-flags.ensures c.has_all.ensures c.if-has_all.false c.has_all-else-has_all.ensures c.if-has_all-2.true (c.check_pending.ensures k h)
 
 pub check_dependency-returns-else-has_all-2 : goal.check_dependency-returns-else-has_all-2
+unfolding has_only
 check_dependency-returns-else-has_all-2 t c k h =
     dependency_clean _ _ _ _ c.flags-flags.ensures c.has_all.ensures c.if-has_all.false c.has_all-else-has_all.ensures c.if-has_all-2.false
 
@@ -71,14 +75,17 @@ check_pending-returns-else-check_dirty t c k h =
     pending_same _ _ _ _ _ (lower_check _ _ _ c.check_dirty.ensures k h) c.if-check_dirty.false c.flags.ensures c.clear.ensures c.set_flags.ensures
 
 pub dirty_by-returns-then-has : goal.dirty_by-returns-then-has
+unfolding has
 dirty_by-returns-then-has t c k h =
     rw c.if-has.true (dirty_already _ _ _ _ _ c.flags.ensures c.has.ensures c.if-has.true)
 
 pub dirty_by-returns-then-rank : goal.dirty_by-returns-then-rank
+unfolding has
 dirty_by-returns-then-rank t c k h =
     dirty_dependency _ _ _ _ _ c.flags.ensures c.has.ensures c.if-has.false c.rank.ensures c.rank-else-has.ensures c.if-rank.true (c.check_dependency.ensures k (omega (arith, c.rank.ensures, c.rank-else-has.ensures, c.if-rank.true, h)))
 
 pub dirty_by-returns-else-rank : goal.dirty_by-returns-else-rank
+unfolding has
 dirty_by-returns-else-rank t c k h =
     rw (le-ltb _ _ c.if-rank.false) (dirty_not _ _ _ _ _ c.flags.ensures c.has.ensures c.if-has.false c.rank.ensures c.rank-else-has.ensures c.if-rank.false)
 
@@ -105,7 +112,7 @@ evaluate-overflow_add-at-in-Choose t c =
 pub evaluate-returns-in-Constant : goal.evaluate-returns-in-Constant
 evaluate-returns-in-Constant t c k h =
     let v : to_z w64 (of_z w64 c.in-Constant.k) ≡ c.in-Constant.k = to_z-of_z {w = w64} (search rules) in
-    worked_constant _ _ _ _ _ _ c.if-depth-eq0.false c.cell_at.ensures c.in-Constant.is (c.of.ensures ∙ ap value v)
+    worked_constant _ _ _ (state c.args.nodes.now c.args.links.now c.args.values.now) _ _ c.if-depth-eq0.false c.cell_at.ensures c.in-Constant.is (c.of.ensures ∙ ap value v)
 
 pub evaluate-returns-in-Read : goal.evaluate-returns-in-Read
 evaluate-returns-in-Read t c k h =
@@ -164,18 +171,22 @@ refresh-returns-2 t c k h =
     refreshed_other _ _ _ _ c.get.ensures c.of_word.ensures.kind (grind (arith, common_steps)) (grind (arith, common_steps))
 
 pub refresh_computed-returns-then-has : goal.refresh_computed-returns-then-has
+unfolding has
 refresh_computed-returns-then-has t c k h =
     computed_dirty _ _ _ _ c.flags-flags.ensures c.has.ensures c.if-has.true (c.renew.ensures k h)
 
 pub refresh_computed-returns-then-has-2 : goal.refresh_computed-returns-then-has-2
+unfolding has
 refresh_computed-returns-then-has-2 t c k h =
     computed_pending _ _ _ _ c.flags-flags.ensures c.has.ensures c.if-has.false c.has-else-has.ensures c.if-has-2.true (c.refresh_pending.ensures k h)
 
 pub refresh_computed-returns-then-is_zero : goal.refresh_computed-returns-then-is_zero
+unfolding has
 refresh_computed-returns-then-is_zero t c k h =
     computed_first _ _ _ _ c.flags-flags.ensures c.has.ensures c.if-has.false c.has-else-has.ensures c.if-has-2.false c.is_zero.ensures c.if-is_zero.true (c.evaluate_first.ensures k h)
 
 pub refresh_computed-returns-else-is_zero : goal.refresh_computed-returns-else-is_zero
+unfolding has
 refresh_computed-returns-else-is_zero t c k h =
     computed_clean _ _ _ _ c.flags-flags.ensures c.has.ensures c.if-has.false c.has-else-has.ensures c.if-has-2.false c.is_zero.ensures c.if-is_zero.false
 
