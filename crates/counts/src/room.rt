@@ -5,6 +5,9 @@ ghost use Rattle.counting.specs.Counts.{node_room, slot_room, cell_room, counted
 use primitive::rows::COUNT;
 use primitive::words;
 
+// The greatest depth of batches.
+pub const MOST_DEPTH: u64 = 64;
+
 pub const MOST_NODES: u64 = 1024;
 
 pub const MOST_SLOTS: u64 = 8192;

@@ -11,8 +11,6 @@ use counts::room;
 use primitive::rows::{DEPTH, EFFECT, FLAGS, GONE, KIND, NODE, QUEUE};
 use primitive::words;
 
-const MOST_DEPTH: u64 = 64;
-
 // Whether an effect is without WATCHING: the other flags of a live one are 0, 32 and 48, of a gone one 0.
 #[tactic(auto, unfolding(resting::specs::Queued::waits_on))]
 fn waits_on(gone: u64, flags: u64) -> bool
@@ -104,7 +102,7 @@ pub fn queued(nodes: &[u64]) -> bool
 {
     let depth = words::at(nodes, DEPTH);
     let len = words::at(nodes, QUEUE);
-    if depth > MOST_DEPTH || !idle(depth, len) || len > room::counted(nodes) {
+    if depth > room::MOST_DEPTH || !idle(depth, len) || len > room::counted(nodes) {
         return false;
     }
     let mut seen = [0u64; SEEN];

@@ -1,24 +1,26 @@
 -- One turn of each loop of emptying. Assumes nothing.
-use mathlib.Core.Path.{◌≡◌, refl}
+use mathlib.Core.Path.{◌≡◌, refl, sym, ap, ◌∙◌}
 use mathlib.Core.Bool.{true, false}
-use mathlib.Core.List.{List}
+use mathlib.Core.List.{List, [], ◌∷◌}
 use Prim.Native.Nat.{ℕ, zero, suc, ◌-◌, ◌<◌, ◌≤◌}
 use native.Mathlib.Omega.{arith}
 use lib.IntN.{ℤ, pos}
-use lib.ListN.{get_or, set}
+use lib.ListN.{get_or, set, length}
+use Rattle.std.specs.Prelude.{replicate}
 use Rattle.primitive.specs.Words.{FREE, NEXT-DEP, set_link}
 use Rattle.counting.specs.Counts.{slot_room, carry_in}
 use Rattle.operating.specs.Emptying.{emptied, zeroed, blank, freed, emptying}
 
-pub zero_turn {ℓ} : {A : Type ℓ} (z : A) (t : List A) (k : ℕ) → 0 < k → zeroed z t k ≡ zeroed z (set t (k - 1) z) (k - 1)
+zero_first {ℓ} : {A : Type ℓ} (z x : A) (t : List A) (k : ℕ) → zeroed z (x ∷ t) (suc k) ≡ z ∷ zeroed z t k
 unfolding zeroed
-zero_turn z t zero h = absurd (omega arith)
-zero_turn z t (suc k) h = let e : suc k - 1 ≡ k = omega arith in rw e
+zero_first z x t zero = refl
+zero_first z x t (suc k) = zero_first z x (set t k z) k
 
-pub zero_done {ℓ} : {A : Type ℓ} (z : A) (t : List A) (k : ℕ) → k ≤ 0 → zeroed z t k ≡ t
+-- a table filled with z
+pub filled {ℓ} : {A : Type ℓ} (z : A) (t : List A) → replicate (length t) z ≡ blank z t
 unfolding zeroed
-zero_done z t zero h = refl
-zero_done z t (suc k) h = absurd (omega arith)
+filled z [] = refl
+filled z (x ∷ t) = ap (λ u. z ∷ u) (filled z t) ∙ sym (zero_first z x t (length t))
 
 pub free_turn : (l : List ℕ) (k : ℕ) → 0 < k → freed l k ≡ freed (set (set_link l (k - 1) NEXT-DEP (get_or l FREE 0)) FREE k) (k - 1)
 unfolding freed

@@ -5,10 +5,9 @@ ghost use Rattle.operating.specs.Log.{ran_to};
 ghost use Rattle.operating.specs.Batches.{depth_of, started, ended_batch};
 
 use crate::runs::flush;
+use counts::room::MOST_DEPTH;
 use primitive::rows::DEPTH;
 use primitive::words;
-
-pub const MOST_DEPTH: u64 = 64;
 
 pub fn depth(nodes: &[u64]) -> u64
     ensures { result ≡ depth_of nodes.now }
@@ -42,7 +41,8 @@ pub fn end_batch(
     }
     words::put(nodes, DEPTH, d - 1);
     if d == 1 {
-        return flush(nodes, links, values, cells, log);
+        flush(nodes, links, values, cells, log)
+    } else {
+        0
     }
-    0
 }

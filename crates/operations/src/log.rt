@@ -5,7 +5,7 @@ ghost use Rattle.operating.specs.Log.{number_word, rowed, rows_in};
 use values::Value;
 
 // A node's number is far below it.
-const HALF: u64 = 9223372036854775808;
+const HALF: u64 = 1 << 63;
 
 pub fn number_word(n: u64) -> i64
     ensures { result ≡ number_word n }
@@ -21,9 +21,7 @@ pub fn write_row(log: &mut [i64], e: u64, v: Value) -> u64
     if log.len() < 2 {
         return 0;
     }
-    let number = number_word(e);
-    let word = v.word;
-    log[0] = number;
-    log[1] = word;
+    log[0] = number_word(e);
+    log[1] = v.word;
     1
 }

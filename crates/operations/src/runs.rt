@@ -70,13 +70,14 @@ pub fn run(
 {
     if must_run(nodes, links, values, cells, e) {
         let value = rerun(nodes, links, values, cells, e);
-        return write_row(log, e, value);
+        write_row(log, e, value)
+    } else {
+        set_flags(nodes, e, Flags::WATCHING);
+        0
     }
-    set_flags(nodes, e, Flags::WATCHING);
-    0
 }
 
-// All that is queued, first to last, each lent the unwritten rest of the log. The answer is how many rows were written.
+// All that is queued, first to last, each lent the unwritten rest of the log. The answer is how many rows were written. A `while`: a run may queue more, so the end grows.
 pub fn flush(
     nodes: &mut [u64],
     links: &mut [u64],

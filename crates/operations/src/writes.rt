@@ -37,9 +37,10 @@ pub fn set(
     };
     propagate(nodes, links, s);
     if depth(nodes) == 0 {
-        return flush(nodes, links, values, cells, log);
+        flush(nodes, links, values, cells, log)
+    } else {
+        0
     }
-    0
 }
 
 // The current value + d, not the pending one.

@@ -8,13 +8,11 @@ ghost use Rattle.refusing.specs.Commands.{number_of};
 ghost use Rattle.refusing.specs.Asked.{wanted};
 
 use counts::reserve::live_effects;
-use counts::room::counted;
+use counts::room::{MOST_DEPTH, counted};
 use primitive::rows::DEPTH;
 use primitive::words;
 use refusals::commands::command_of;
 use refusing::commands::Command;
-
-pub const MOST_DEPTH: u64 = 64;
 
 // 8: end at depth 0, or start at depth 64.
 #[tactic(auto, using(refusing::proofs::BatchingLaws::depth_so), unfolding(refusing::specs::Asked::barred_at, refusing::specs::Commands::number_of))]

@@ -8,5 +8,5 @@ returns-then-d-eq0 c = end_none _ _ _ _ c.depth-d.ensures c.if-d-eq0.true
 pub returns-then-d-eq1 : goal.returns-then-d-eq1
 returns-then-d-eq1 c = end_last _ _ _ _ c.depth-d.ensures c.if-d-eq0.false c.if-d-eq1.true (rw (← c.put.ensures) c.flush.ensures)
 
-pub returns : goal.returns
-returns c = rw c.put.ensures (end_inner _ _ _ _ c.depth-d.ensures c.if-d-eq0.false c.if-d-eq1.false)
+pub returns-else-d-eq1 : goal.returns-else-d-eq1
+returns-else-d-eq1 c = rw c.put.ensures (end_inner _ _ _ _ c.depth-d.ensures c.if-d-eq0.false c.if-d-eq1.false)

@@ -12,5 +12,5 @@ returns-then-log-lt2 c = record { value = no_rows _ c.if-log-lt2.true; log_after
 
 pub returns : goal.returns
 returns c = let v : to_z w64 (of_z w64 c.args.v.word) ≡ c.args.v.word = to_z-of_z {w = w64} (search rules) in
-    let n : to_z w64 (of_z w64 c.number_word-number.result) ≡ c.number_word-number.result = to_z-of_z {w = w64} (search rules) in
-    record { value = one_rows _ c.if-log-lt2.false; log_after = rw (v, n, c.number_word-number.ensures) (one_row _ c.args.e c.args.v c.if-log-lt2.false) }
+    let n : to_z w64 (of_z w64 c.number_word.result) ≡ c.number_word.result = to_z-of_z {w = w64} (search rules) in
+    record { value = one_rows _ c.if-log-lt2.false; log_after = rw (v, n, c.number_word.ensures) (one_row _ c.args.e c.args.v c.if-log-lt2.false) }

@@ -29,9 +29,9 @@ returns-then-depth-eq0 c =
     let q : c.propagate.new.nodes ≡ propagated a.links.now (set_flags a.nodes.now a.n stale) c.in-At.s = rw (← z) c.propagate.ensures in
     write_flushed _ _ _ _ _ c.pending.ensures (c.eq.ensures ∙ eq_same _ _) c.if-eq.false _ g _ q (sym c.depth.ensures ∙ c.if-depth-eq0.true) (rw (← c.keep_pending.ensures) c.flush.ensures)
 
-pub returns : goal.returns
+pub returns-else-depth-eq0 : goal.returns-else-depth-eq0
 unfolding stored
-returns c =
+returns-else-depth-eq0 c =
     let a = c.args in
     let z : c.set_flags.new.nodes ≡ set_flags a.nodes.now a.n stale = c.set_flags.ensures in
     let g : slot_of (subs (set_flags a.nodes.now a.n stale) a.n) ≡ At c.in-At.s = rw (← z) (sym (c.open.ensures ∙ ap slot_of c.get.ensures) ∙ c.in-At.is) in
