@@ -74,8 +74,8 @@ pub fn cell_at(cells: &[i64], i: u64) -> Cell
 {
     if i < cells.len() as u64 / 2 {
         cell_of(
-            words::signed_at(cells, i * 2),
-            words::signed_at(cells, i * 2 + 1),
+            words::at(cells, i * 2),
+            words::at(cells, i * 2 + 1),
         )
     } else {
         Cell::Bad

@@ -48,11 +48,11 @@ fn command_by(k: u64, a: i64, b: i64) -> Command
 pub fn command_of(words: &[i64]) -> Command
     ensures { result ≡ brief (command_of words.now) }
 {
-    match natural(words::signed_at(words, 0)) {
+    match natural(words::at(words, 0)) {
         Some(code) if takes_words(code, words.len()) => command_by(
             code,
-            words::signed_at(words, 1),
-            words::signed_at(words, 2),
+            words::at(words, 1),
+            words::at(words, 2),
         ),
         _ => Command::Unknown,
     }

@@ -3,7 +3,7 @@ ghost use Rattle.std.specs.Prelude.{◌≡◌};
 ghost use Rattle.sequencing.specs.Lists.{next_in};
 
 use formula::cells::natural;
-use primitive::words::signed_at;
+use primitive::words::at;
 use sequencing::list::Next;
 
 pub fn head(list: &[i64]) -> Next
@@ -13,7 +13,7 @@ pub fn head(list: &[i64]) -> Next
     if n == 0 {
         return Next::Over;
     }
-    let Some(k) = natural(signed_at(list, 0)) else {
+    let Some(k) = natural(at(list, 0)) else {
         return Next::Bad;
     };
     let words = k as usize;

@@ -13,8 +13,6 @@ use Rattle.primitive.proofs.words.at.Kinds as words-at-kinds
 use Rattle.primitive.proofs.words.at.Reads as words-at
 use Rattle.primitive.proofs.words.put.Kinds as words-put-kinds
 use Rattle.primitive.proofs.words.put.Reads as words-put
-use Rattle.primitive.proofs.words.signed_at.Kinds as words-signed-at-kinds
-use Rattle.primitive.proofs.words.signed_at.Reads as words-signed-at
 use Rattle.primitive.proofs.words.get.Kinds as words-get-kinds
 use Rattle.primitive.proofs.words.get.Reads as words-get
 use Rattle.primitive.proofs.words.store.Kinds as words-store-kinds
@@ -37,9 +35,6 @@ one_words_at κs a x y v w p q = (p ∙ sym q, refl)
 
 pub one_words_put : OneAnswer words-put-kinds.ps words-put-kinds.r words-put.Learnt
 one_words_put κs a x y v w p q = (refl, λ i. ((p ∙ sym q) i, (tt, (tt, tt))))
-
-pub one_words_signed_at : OneAnswer words-signed-at-kinds.ps words-signed-at-kinds.r words-signed-at.Learnt
-one_words_signed_at κs a x y v w p q = (p ∙ sym q, refl)
 
 pub one_words_get : OneAnswer words-get-kinds.ps words-get-kinds.r words-get.Learnt
 one_words_get κs a x y v w p q = (p ∙ sym q, refl)

@@ -12,15 +12,15 @@ returns-then-n-eq0 c = none_left _ c.if-n-eq0.true
 
 pub returns-in_default : goal.returns-in_default
 returns-in_default c =
-    let p : to_z w64 (of_z w64 c.signed_at.result) ≡ c.signed_at.result = to_z-of_z {w = w64} (search rules) in
-    is_below _ c.signed_at.ensures (rw p at c.natural.ensures) c.if-n-eq0.false c.in_default.is
+    let p : to_z w64 (of_z w64 c.at.result) ≡ c.at.result = to_z-of_z {w = w64} (search rules) in
+    is_below _ c.at.ensures (rw p at c.natural.ensures) c.if-n-eq0.false c.in_default.is
 
 pub returns-then-words-n : goal.returns-then-words-n
 returns-then-words-n c =
-    let p : to_z w64 (of_z w64 c.signed_at.result) ≡ c.signed_at.result = to_z-of_z {w = w64} (search rules) in
-    is_inside _ c.signed_at.ensures (rw p at c.natural.ensures) c.if-n-eq0.false _ c.in-Some.is c.if-words-n.true
+    let p : to_z w64 (of_z w64 c.at.result) ≡ c.at.result = to_z-of_z {w = w64} (search rules) in
+    is_inside _ c.at.ensures (rw p at c.natural.ensures) c.if-n-eq0.false _ c.in-Some.is c.if-words-n.true
 
 pub returns : goal.returns
 returns c =
-    let p : to_z w64 (of_z w64 c.signed_at.result) ≡ c.signed_at.result = to_z-of_z {w = w64} (search rules) in
-    is_beyond _ c.signed_at.ensures (rw p at c.natural.ensures) c.if-n-eq0.false _ c.in-Some.is c.if-words-n.false
+    let p : to_z w64 (of_z w64 c.at.result) ≡ c.at.result = to_z-of_z {w = w64} (search rules) in
+    is_beyond _ c.at.ensures (rw p at c.natural.ensures) c.if-n-eq0.false _ c.in-Some.is c.if-words-n.false
