@@ -1,5 +1,10 @@
 -- The promise of each public function of `primitive` has one answer. Assumes nothing.
 use mathlib.Core.Path.{refl, sym, ◌∙◌}
+use denote.RattleType.{RattleType}
+use denote.Param.Laws.{Laws, IsCopy}
+use mir.Syntax.{Dict}
+use Rattle.std.specs.declared.clone.Clone as clone
+use Rattle.primitive.specs.declared.words.Word as word
 use Rattle.tight.specs.OneAnswer.{OneAnswer}
 use Rattle.primitive.proofs.kinds.Kind.of_word.Kinds as kinds-of_word-kinds
 use Rattle.primitive.proofs.kinds.Kind.of_word.Reads as kinds-of_word
@@ -9,6 +14,10 @@ use Rattle.primitive.proofs.slots.open.Kinds as slots-open-kinds
 use Rattle.primitive.proofs.slots.open.Reads as slots-open
 use Rattle.primitive.proofs.walk.Walk.new.Kinds as walk_new_kinds
 use Rattle.primitive.proofs.walk.Walk.new.Reads as walk_new
+use Rattle.primitive.proofs.words.U64Word.zero.Kinds as words-u64-zero-kinds
+use Rattle.primitive.proofs.words.U64Word.zero.Reads as words-u64-zero
+use Rattle.primitive.proofs.words.I64Word.zero.Kinds as words-i64-zero-kinds
+use Rattle.primitive.proofs.words.I64Word.zero.Reads as words-i64-zero
 use Rattle.primitive.proofs.words.at.Kinds as words-at-kinds
 use Rattle.primitive.proofs.words.at.Reads as words-at
 use Rattle.primitive.proofs.words.put.Kinds as words-put-kinds
@@ -30,11 +39,18 @@ one_slots_open κs a x y v w p q = (p ∙ sym q, refl)
 pub one_walk_new : OneAnswer walk_new_kinds.ps walk_new_kinds.r walk_new.Learnt
 one_walk_new κs a x y v w p q = (p ∙ sym q, refl)
 
-pub one_words_at : OneAnswer words-at-kinds.ps words-at-kinds.r words-at.Learnt
-one_words_at κs a x y v w p q = (p ∙ sym q, refl)
+pub one_words_u64_zero : OneAnswer words-u64-zero-kinds.ps words-u64-zero-kinds.r words-u64-zero.Learnt
+one_words_u64_zero κs a x y v w p q = (p ∙ sym q, refl)
 
-pub one_words_put : OneAnswer words-put-kinds.ps words-put-kinds.r words-put.Learnt
-one_words_put κs a x y v w p q = (refl, λ i. ((p ∙ sym q) i, (tt, (tt, tt))))
+pub one_words_i64_zero : OneAnswer words-i64-zero-kinds.ps words-i64-zero-kinds.r words-i64-zero.Learnt
+one_words_i64_zero κs a x y v w p q = (p ∙ sym q, refl)
+
+-- of words of any type
+pub one_words_at : (T : RattleType) (l : Laws T) (o : IsCopy T) (g : word.Ghosts T.Denot) (d : Dict) (h : clone.Ghosts T.Denot) (e : Dict) → OneAnswer (words-at-kinds.ps T l o) (words-at-kinds.r T l o) (words-at.Learnt T l o g d h e)
+one_words_at T l o g d h e κs a x y v w p q = (p ∙ sym q, refl)
+
+pub one_words_put : (T : RattleType) (l : Laws T) (o : IsCopy T) (h : clone.Ghosts T.Denot) (e : Dict) → OneAnswer (words-put-kinds.ps T l o) (words-put-kinds.r T l o) (words-put.Learnt T l o h e)
+one_words_put T l o h e κs a x y v w p q = (refl, λ i. ((p ∙ sym q) i, (tt, (tt, tt))))
 
 pub one_words_get : OneAnswer words-get-kinds.ps words-get-kinds.r words-get.Learnt
 one_words_get κs a x y v w p q = (p ∙ sym q, refl)
