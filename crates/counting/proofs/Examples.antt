@@ -2,7 +2,7 @@
 use mathlib.Core.Path.{◌≡◌, refl}
 use mathlib.Core.List.{List}
 use Prim.Native.Nat.{ℕ, ◌+◌, ◌*◌}
-use lib.ListN.{get_or, set, replicate}
+use lib.ListN.{set, replicate}
 use Rattle.primitive.specs.Rows.{has_field, field}
 use Rattle.primitive.specs.Words.{COUNT, KIND, GONE, READS, OWNER, SIGNAL, COMPUTED, EFFECT, SCOPE}
 use Rattle.counting.specs.Counts.{counted_in, total, reserve_of, reserve_in, effect_of, live_effects_in}

@@ -1,4 +1,3 @@
 pub mod Sums
 pub mod Capacities
-pub mod DepthLaws
 mod Examples

@@ -2,21 +2,12 @@
 use mathlib.Core.Path.{◌≡◌, refl}
 use mathlib.Core.Bool.{Bool, true, false}
 use mathlib.Core.List.{List}
-use Prim.Native.Nat.{ℕ, zero, suc, ◌+◌, ◌≤◌, min}
+use Prim.Native.Nat.{ℕ, ◌+◌, ◌≤◌, min}
 use native.Mathlib.Numerals.{add-one}
 use native.Mathlib.Omega.{arith}
 use lib.Dec.{eqb}
 use Rattle.primitive.specs.Words.{KIND, GONE, EFFECT, node}
-use Rattle.counting.specs.Counts.{total, top, row, owned_link, effect_of}
-
--- an owner counts 1
-pub owned_some : (w : ℕ) → (w ≡ 0 → ⊥) → 1 ≡ owned_link w
-owned_some zero h = absurd (h refl)
-owned_some (suc o) h = refl
-
-pub owned_most : (w : ℕ) → owned_link w ≤ 1
-owned_most zero = omega arith
-owned_most (suc o) = omega arith
+use Rattle.counting.specs.Counts.{total, top, row, effect_of}
 
 pub total_none : (f : ℕ → ℕ) → total f 0 ≡ 0
 unfolding total

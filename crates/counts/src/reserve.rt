@@ -4,22 +4,20 @@ ghost use Rattle.counting.specs.Counts.{top, owned_link, reserve_of, reserve_in,
 
 use crate::room::counted;
 use primitive::kinds::Kind;
-use primitive::rows::{EFFECT, GONE, KIND, NODE, OWNER, READS};
+use primitive::rows::{GONE, KIND, NODE, OWNER, READS};
 use primitive::words;
-
-const TOP: u64 = 18446744073709551615;
 
 pub fn plus(a: u64, b: u64) -> u64
     ensures { result ≡ min top (a + b) }
 {
-    if a > TOP - b { TOP } else { a + b }
+    a.saturating_add(b)
 }
 
 // 1 for a node that has an owner: the link from it.
 fn owned(owner: u64) -> u64
     ensures { result ≡ owned_link owner }
 {
-    if owner == 0 { 0 } else { 1 }
+    u64::from(owner != 0)
 }
 
 // Twice the read cells: on a rerun old links stay until the purge. A gone effect or scope counts nothing.
@@ -45,36 +43,31 @@ pub fn reserve_of(nodes: &[u64], n: u64) -> u64
 pub fn reserve(nodes: &[u64]) -> u64
     ensures { result ≡ reserve_in nodes.now }
 {
-    let end = counted(nodes);
-    let mut n: u64 = 0;
-    let mut sum: u64 = 0;
-    while n < end {
+    let mut sum = 0;
+    for n in 0..counted(nodes) {
         sum = plus(sum, reserve_of(nodes, n));
-        n += 1;
     }
     sum
 }
 
 // 1 for a live effect.
+#[tactic(auto, unfolding(counting::specs::Counts::effect_of))]
 fn effect_of(nodes: &[u64], n: u64) -> u64
     ensures { result ≡ effect_of nodes.now n }
 {
-    let gone = words::get(nodes, NODE, n, GONE);
-    if words::get(nodes, NODE, n, KIND) != EFFECT {
-        return 0;
+    let live = words::get(nodes, NODE, n, GONE) == 0;
+    match Kind::of_word(words::get(nodes, NODE, n, KIND)) {
+        Some(Kind::Effect) => u64::from(live),
+        _ => 0,
     }
-    if gone == 0 { 1 } else { 0 }
 }
 
 pub fn live_effects(nodes: &[u64]) -> u64
     ensures { result ≡ live_effects_in nodes.now }
 {
-    let end = counted(nodes);
-    let mut n: u64 = 0;
-    let mut sum: u64 = 0;
-    while n < end {
+    let mut sum = 0;
+    for n in 0..counted(nodes) {
         sum += effect_of(nodes, n);
-        n += 1;
     }
     sum
 }
