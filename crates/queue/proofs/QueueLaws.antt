@@ -44,18 +44,6 @@ pub reversed_more : (t : List ℕ) (lo hi : ℕ) → lo < hi → reversed t lo h
 reversed_more t lo zero h = absurd (omega arith)
 reversed_more t lo (suc hi) h = let e : suc hi - 1 ≡ hi = omega arith in rw (add-one lo, e) (reversed_suc t lo hi h)
 
-pub push_room : (t : List ℕ) (e : ℕ) {n : ℕ} {u v : List ℕ} → n ≡ count t → n + 1 < length t / 16
-    → u ≡ set_field 16 t n 12 e → v ≡ set u 12 (n + 1) → v ≡ pushed t e
-push_room t e {n} {u} {v} p h q r =
-    let k : suc (count t) < length t / 16 = omega arith in
-    let m : n + 1 ≡ suc (count t) = omega arith in
-    r ∙ ap₂ (λ (x : List ℕ) (y : ℕ). set x 12 y) (q ∙ ap (λ (x : ℕ). set_field 16 t x 12 e) p) m ∙ sym (pushed_room t e k)
-
-pub swap_by : (t : List ℕ) (i j : ℕ) {a b : ℕ} {u v : List ℕ} → a ≡ entry_at t i → b ≡ entry_at t j
-    → u ≡ set_field 16 t i 12 b → v ≡ set_field 16 u j 12 a → v ≡ swapped t i j
-unfolding swapped
-swap_by t i j p q r s = cc
-
 -- ---- entries
 length_entries : (t : List ℕ) (s n : ℕ) → length (entries t s n) ≡ n
 unfolding entries

@@ -8,20 +8,14 @@ use primitive::rows::{NODE, QUEUE};
 use primitive::words;
 
 // As many entries as the length word says, but no more than there are rows for.
+#[tactic(auto, unfolding(crate::specs::Queue::count))]
 pub fn length(nodes: &[u64]) -> u64
     ensures { result ≡ count nodes.now }
 {
-    let rows = (nodes.len() / 16) as u64;
-    let n = words::at(nodes, QUEUE);
-    if n < rows {
-        return n;
-    }
-    if rows == 0 {
-        return 0;
-    }
-    rows - 1
+    words::at(nodes, QUEUE).min((nodes.len() / 16).saturating_sub(1) as u64)
 }
 
+#[tactic(auto, unfolding(crate::specs::Queue::entry_at))]
 pub fn entry(nodes: &[u64], i: u64) -> u64
     ensures { result ≡ entry_at nodes.now i }
 {
@@ -29,24 +23,25 @@ pub fn entry(nodes: &[u64], i: u64) -> u64
 }
 
 // Behind the last. A full queue stays as it is.
+#[tactic(auto, using(crate::proofs::QueueLaws::count_le), unfolding(crate::specs::Queue::pushed))]
 pub fn push(nodes: &mut [u64], e: u64)
     ensures { nodes.new ≡ pushed nodes.old e }
 {
     let n = length(nodes);
-    let rows = (nodes.len() / 16) as u64;
-    if n + 1 >= rows {
-        return;
+    if n + 1 < (nodes.len() / 16) as u64 {
+        words::store(nodes, NODE, n, QUEUE, e);
+        words::put(nodes, QUEUE, n + 1);
     }
-    words::store(nodes, NODE, n, QUEUE, e);
-    words::put(nodes, QUEUE, n + 1);
 }
 
+#[tactic(auto, unfolding(crate::specs::Queue::emptied))]
 pub fn clear(nodes: &mut [u64])
     ensures { nodes.new ≡ emptied nodes.old }
 {
     words::put(nodes, QUEUE, 0);
 }
 
+#[tactic(auto, unfolding(crate::specs::Queue::swapped))]
 fn swap(nodes: &mut [u64], i: u64, j: u64)
     ensures { nodes.new ≡ swapped nodes.old i j }
 {
@@ -56,7 +51,8 @@ fn swap(nodes: &mut [u64], i: u64, j: u64)
     words::store(nodes, NODE, j, QUEUE, a);
 }
 
-// The entries from `from` on, last first; those before it stay.
+// The entries from `from` on, last first; those before it stay. Both ends move, so no `for` says it more plainly; the library turns a slice,
+// and these entries lie a row apart.
 pub fn reverse_from(nodes: &mut [u64], from: u64)
     ensures { nodes.new ≡ reversed_from nodes.old from }
 {

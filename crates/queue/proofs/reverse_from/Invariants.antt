@@ -1,7 +1,7 @@
 -- `queue::reverse_from` meets its contract. The loop's invariant: to reverse what is left gives the same as to reverse all of it;
 -- the length stays, and hi is at most the length. The measure is hi. Assumes nothing.
 use mathlib.Core.Path.{◌≡◌}
-use Prim.Native.Nat.{◌-◌, ◌≤◌}
+use Prim.Native.Nat.{◌≤◌}
 use lib.ListN.{length}
 use Rattle.queue.specs.Queue.{reversed}
 use Rattle.queue.proofs.reverse_from.Given as goal
