@@ -25,22 +25,14 @@ use values::Value;
 use version::Version;
 
 // Whether there is a row for one more node, and room for this many cells.
+#[tactic(auto, unfolding(operating::specs::Making::has_room))]
 fn has_room(nodes: &[u64], cells: &[i64], size: u64) -> bool
     ensures { result ≡ has_room nodes.now cells.now size }
 {
     let rows = (nodes.len() / 16) as u64;
     let room = (cells.len() / 2) as u64;
     let n = words::at(nodes, COUNT);
-    if n >= rows {
-        return false;
-    }
-    if n + 1 >= rows {
-        return false;
-    }
-    if size > room {
-        return false;
-    }
-    words::at(nodes, USED) <= room - size
+    n < rows && n + 1 < rows && size <= room && words::at(nodes, USED) <= room - size
 }
 
 // The words of node n: live, with no links. Its word in the queue's column is not its own.
@@ -74,10 +66,8 @@ fn give(values: &mut [i64], n: u64, v: Value)
 fn set_word(cells: &mut [i64], at: usize, i: usize, w: i64)
     ensures { cells.new ≡ set cells.old (at + i) w }
 {
-    if at < cells.len() {
-        if i < cells.len() - at {
-            cells[at + i] = w;
-        }
+    if at < cells.len() && i < cells.len() - at {
+        cells[at + i] = w;
     }
 }
 
@@ -85,10 +75,8 @@ fn set_word(cells: &mut [i64], at: usize, i: usize, w: i64)
 fn lay(cells: &mut [i64], at: usize, formula: &[i64])
     ensures { cells.new ≡ laid cells.old at formula.now }
 {
-    let mut i: usize = 0;
-    while i < formula.len() {
-        set_word(cells, at, i, formula[i]);
-        i += 1;
+    for (i, w) in formula.iter().enumerate() {
+        set_word(cells, at, i, *w);
     }
 }
 
@@ -170,7 +158,7 @@ pub fn new_scope(
     let sort = Sort {
         kind: SCOPE,
         flags: Flags::NONE,
-        owner: owner,
+        owner,
         level: depth_under(nodes, owner),
     };
     let n = make(nodes, values, cells, sort, &[0i64; 0], Value::of(0));
@@ -200,7 +188,7 @@ pub fn new_effect(
     let sort = Sort {
         kind: EFFECT,
         flags: Flags::RUNNING,
-        owner: owner,
+        owner,
         level: depth_under(nodes, owner),
     };
     let n = make(nodes, values, cells, sort, formula, Value::of(0));
@@ -208,8 +196,5 @@ pub fn new_effect(
     let value = evaluate(nodes, links, values, cells, n);
     end_run(nodes, n);
     let rows = write_row(log, n, value);
-    Started {
-        number: n,
-        rows: rows,
-    }
+    Started { number: n, rows }
 }

@@ -1,15 +1,15 @@
 -- The making of a node, one law for each way. Assumes nothing.
-use mathlib.Core.Path.{◌≡◌, refl, sym, ap, ◌∙◌}
+use mathlib.Core.Path.{◌≡◌, refl, ap}
 use mathlib.Core.Bool.{Bool, true, false, ◌&&◌}
 use mathlib.Core.List.{List}
-use Prim.Native.Nat.{ℕ, suc, ◌+◌, ◌*◌, ◌-◌, ◌/◌, ◌<◌, ◌≤◌}
+use Prim.Native.Nat.{ℕ, suc, ◌+◌, ◌*◌, ◌/◌, ◌<◌, ◌≤◌}
 use native.Mathlib.Omega.{arith}
 use native.Mathlib.Numerals.{add-one}
 use lib.Dec.{leb, ltb}
 use lib.IntN.{ℤ, pos}
 use lib.ListN.{length, get_or, set, drop, drop_of_length-le}
 use lib.Seq.{drop-cons}
-use borrow.Author.Tests.{lt-ltb, le-ltb, lt-leb, le-leb, ltb-true, leb-true, leb-false}
+use borrow.Author.Tests.{ltb-true, leb-true}
 use Rattle.values.specs.declared.Value.{Value}
 use Rattle.primitive.specs.Words.{COUNT, USED, node_rows}
 use Rattle.reading.specs.Tables.{state}
@@ -17,33 +17,6 @@ use Rattle.operating.specs.declared.making.Sort.{Sort}
 use Rattle.operating.specs.Making.{has_room, described, valued, laid, made, make}
 
 -- ---- room
-pub no_node : (N : List ℕ) (c : List ℤ) (k : ℕ) {n : ℕ} → n ≡ get_or N COUNT 0 → node_rows N ≤ suc n → false ≡ has_room N c k
-unfolding has_room
-no_node N c k e h =
-    let z : node_rows N ≤ suc (get_or N COUNT 0) = omega arith in
-    rw (le-ltb _ _ z, has_room)
-
-same_test : (u k r : ℕ) → k ≤ r → leb u (r - k) ≡ leb (u + k) r
-same_test u k r h = go (leb (u + k) r) refl
-  where
-    go : (b : Bool) → leb (u + k) r ≡ b → leb u (r - k) ≡ leb (u + k) r
-    go true e = le-leb u (r - k) (omega (arith, leb-true (u + k) r e)) ∙ sym e
-    go false e = lt-leb u (r - k) (omega (arith, leb-false (u + k) r e)) ∙ sym e
-
-module _ (N : List ℕ) (c : List ℤ) (k : ℕ) {n : ℕ} (e : n ≡ get_or N COUNT 0) (h : suc n < node_rows N) where
-  pub no_cells : length c / 2 < k → false ≡ has_room N c k
-  unfolding has_room
-  no_cells g =
-      let z : suc (get_or N COUNT 0) < node_rows N = omega arith in
-      let w : length c / 2 < get_or N USED 0 + k = omega arith in
-      rw (lt-ltb _ _ z, lt-leb _ _ w, has_room)
-
-  pub some_cells : {u : ℕ} → u ≡ get_or N USED 0 → k ≤ length c / 2 → leb u (length c / 2 - k) ≡ has_room N c k
-  unfolding has_room
-  some_cells q g =
-      let z : suc (get_or N COUNT 0) < node_rows N = omega arith in
-      rw (lt-ltb _ _ z, has_room, q) (same_test (get_or N USED 0) k (length c / 2) g)
-
 and_left : (a b : Bool) → (a && b) ≡ true → a ≡ true
 and_left true b e = refl
 and_left false b e = e
