@@ -5,6 +5,7 @@ ghost use Rattle.trees.specs.Cells.{natural_of, cell_of, bare_of, read_of, arity
 use primitive::words;
 use trees::cells::{Cell, Op};
 
+// The library's conversion, under the name that definitions and callers' proofs have for it.
 pub fn natural(k: i64) -> Option<u64>
     ensures { result ≡ natural_of k }
 {
@@ -26,6 +27,7 @@ fn read(operand: i64) -> Cell
     natural(operand).map_or(Cell::Bad, Cell::Read)
 }
 
+// Codes are numbers here alone: behind it a cell is a Cell.
 #[tactic(auto, unfolding(trees::specs::Cells::cell_of, trees::specs::Cells::codes))]
 pub fn cell_of(code: i64, operand: i64) -> Cell
     ensures { result ≡ cell_of code operand }

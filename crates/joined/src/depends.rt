@@ -1,6 +1,6 @@
 // What depends on what, and the link of what is owned.
 ghost use Rattle.std.specs.Prelude.{◌≡◌, ℕ, Bool};
-ghost use Rattle.primitive.specs.Words.{link, NEXT-DEP};
+ghost use Rattle.primitive.specs.Words.{node, link, NEXT-DEP};
 ghost use Rattle.counting.specs.Counts.{slot_room};
 ghost use Rattle.lists.specs.Each.{along};
 ghost use Rattle.resting.specs.Depends.{reads_kind, owns_kind, owner_is, may_depend, depends_at, owned_on, owned_at};
@@ -12,17 +12,24 @@ use primitive::rows::{DEP, DEPS, GONE, KIND, LINK, NEXT_DEP, NEXT_SUB, NODE, OWN
 use primitive::slots::Slot;
 use primitive::{slots, words};
 
-// Kinds that read: they have a formula.
-pub fn reads_kind(kind: u64) -> bool
-    ensures { result ≡ reads_kind kind }
+// Whether node n is of a kind that reads: these have a formula.
+pub fn reads(nodes: &[u64], n: u64) -> bool
+    ensures { result ≡ reads_kind (node nodes.now n KIND) }
 {
-    matches!(Kind::of_word(kind), Some(Kind::Computed | Kind::Effect))
+    matches!(
+        Kind::of_word(words::get(nodes, NODE, n, KIND)),
+        Some(Kind::Computed | Kind::Effect)
+    )
 }
 
-fn owns_kind(kind: u64) -> bool
-    ensures { result ≡ owns_kind kind }
+// Whether node n is of a kind that owns. Other kinds than those that read, and no more in common, so this is no twin of `reads`.
+fn owns(nodes: &[u64], n: u64) -> bool
+    ensures { result ≡ owns_kind (node nodes.now n KIND) }
 {
-    matches!(Kind::of_word(kind), Some(Kind::Effect | Kind::Scope))
+    matches!(
+        Kind::of_word(words::get(nodes, NODE, n, KIND)),
+        Some(Kind::Effect | Kind::Scope)
+    )
 }
 
 // Whether an owner's word names node n.
@@ -38,16 +45,15 @@ fn owner_is(w: u64, n: u64) -> bool
 fn may_depend(nodes: &[u64], n: u64, d: u64) -> bool
     ensures { result ≡ may_depend nodes.now n d }
 {
-    let kind = words::get(nodes, NODE, n, KIND);
-    let owner = words::get(nodes, NODE, d, OWNER);
     if legal::readable(nodes, d) {
-        reads_kind(kind) && d < n
+        reads(nodes, n) && d < n
     } else {
-        owns_kind(kind) && owner_is(owner, n)
+        owns(nodes, n) && owner_is(words::get(nodes, NODE, d, OWNER), n)
     }
 }
 
 // Whether each link of the dependency list from the word w on goes to a node that passes the test.
+// No `primitive::walk::Walk`: it goes over as many slots as the table has rows, and the definitions of resting over one less, the header's.
 pub fn every_link<F: Fn(u64) -> bool>(links: &[u64], w: u64, test: F) -> bool
     requires { F.IsAlwaysCallable test }
     ensures { (p : ℕ → Bool) → ((d : ℕ) (r : Bool) → F.post test d r → r ≡ p d)

@@ -1,10 +1,13 @@
 // The flags that a node may have at rest, by kind. deps and subs are the heads of its lists, reads the number of its read links.
 ghost use Rattle.std.specs.Prelude.{◌≡◌};
+ghost use Rattle.primitive.specs.Words.{node};
 ghost use Rattle.resting.specs.Flagged.{signal_flags, computed_flags, effect_flags, gone_flags, flags_on};
 
 use primitive::kinds::Kind;
+use primitive::rows::{DEPS, FLAGS, GONE, KIND, NODE, SUBS};
+use primitive::words;
 
-// The numbers are sums of bits: 1 mutable, 2 watching, 16 dirty, 32 pending.
+// By number, as document 01 says them: sums of 1 mutable, 2 watching, 16 dirty, 32 pending.
 #[tactic(auto, unfolding(resting::specs::Flagged::signal_flags))]
 fn signal_flags(flags: u64) -> bool
     ensures { result ≡ signal_flags flags }
@@ -43,11 +46,16 @@ fn gone_flags(flags: u64) -> bool
     matches!(flags, 0 | 2)
 }
 
+// Node n, with so many read links.
 #[tactic(auto, unfolding(resting::specs::Flagged::flags_on))]
-pub fn flags_on(kind: u64, gone: u64, flags: u64, deps: u64, subs: u64, reads: u64) -> bool
-    ensures { result ≡ flags_on kind gone flags deps subs reads }
+pub fn flags_on(nodes: &[u64], n: u64, reads: u64) -> bool
+    ensures { result ≡ flags_on (node nodes.now n KIND) (node nodes.now n GONE) (node nodes.now n FLAGS) (node nodes.now n DEPS) (node nodes.now n SUBS) reads }
 {
-    match Kind::of_word(kind) {
+    let flags = words::get(nodes, NODE, n, FLAGS);
+    let deps = words::get(nodes, NODE, n, DEPS);
+    let subs = words::get(nodes, NODE, n, SUBS);
+    let gone = words::get(nodes, NODE, n, GONE);
+    match Kind::of_word(words::get(nodes, NODE, n, KIND)) {
         Some(Kind::Signal) => signal_flags(flags),
         Some(Kind::Computed) => computed_flags(flags, deps, subs),
         Some(Kind::Effect) if gone == 0 => effect_flags(flags, reads),

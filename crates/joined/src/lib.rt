@@ -12,7 +12,7 @@ ghost use Rattle.std.specs.Prelude.{◌≡◌};
 ghost use Rattle.resting.specs.Joined.{flagged_at, rests_at, rest_in, joined_in};
 
 use counts::room;
-use primitive::rows::{DEPS, FLAGS, GONE, KIND, NODE, READS, SUBS};
+use primitive::rows::{DEPS, NODE, READS};
 use primitive::words;
 
 // Whether node n has no more read links than read cells, and flags that its kind may have at rest.
@@ -20,14 +20,8 @@ use primitive::words;
 fn flagged_at(nodes: &[u64], links: &[u64], n: u64) -> bool
     ensures { result ≡ flagged_at nodes.now links.now n }
 {
-    let kind = words::get(nodes, NODE, n, KIND);
-    let gone = words::get(nodes, NODE, n, GONE);
-    let flags = words::get(nodes, NODE, n, FLAGS);
-    let deps = words::get(nodes, NODE, n, DEPS);
-    let subs = words::get(nodes, NODE, n, SUBS);
-    let cells = words::get(nodes, NODE, n, READS);
-    let reads = named::read_links(nodes, links, deps);
-    reads <= cells && flagged::flags_on(kind, gone, flags, deps, subs, reads)
+    let reads = named::read_links(nodes, links, words::get(nodes, NODE, n, DEPS));
+    reads <= words::get(nodes, NODE, n, READS) && flagged::flags_on(nodes, n, reads)
 }
 
 // What is asked of node n alone.

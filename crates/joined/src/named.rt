@@ -7,7 +7,7 @@ use crate::depends;
 use counts::room;
 use formula::cells::name_at;
 use formula::legal;
-use primitive::rows::{CELLS, DEP, DEPS, KIND, LINK, NEXT_DEP, NODE, START};
+use primitive::rows::{CELLS, DEP, DEPS, LINK, NEXT_DEP, NODE, START};
 use primitive::slots::Slot;
 use primitive::{slots, words};
 
@@ -57,7 +57,7 @@ fn stamp_node(nodes: &[u64], cells: &[i64], seen: &mut [u64], n: u64, v: u64)
 {
     let start = words::get(nodes, NODE, n, START);
     let count = words::get(nodes, NODE, n, CELLS);
-    if depends::reads_kind(words::get(nodes, NODE, n, KIND)) {
+    if depends::reads(nodes, n) {
         stamp_cells(cells, seen, v, start, count);
     }
 }

@@ -8,7 +8,8 @@ ghost use Rattle.resting.specs.Queued.{waits_on, may_wait, lives, due, scanned, 
 
 use crate::named::SEEN;
 use counts::room;
-use primitive::rows::{DEPTH, EFFECT, FLAGS, GONE, KIND, NODE, QUEUE};
+use primitive::kinds::Kind;
+use primitive::rows::{DEPTH, FLAGS, GONE, KIND, NODE, QUEUE};
 use primitive::words;
 
 // Whether an effect is without WATCHING: the other flags of a live one are 0, 32 and 48, of a gone one 0.
@@ -25,7 +26,7 @@ fn may_wait(nodes: &[u64], e: u64) -> bool
     ensures { result ≡ may_wait nodes.now e }
 {
     e < room::counted(nodes)
-        && words::get(nodes, NODE, e, KIND) == EFFECT
+        && Kind::of_word(words::get(nodes, NODE, e, KIND)) == Some(Kind::Effect)
         && waits_on(
             words::get(nodes, NODE, e, GONE),
             words::get(nodes, NODE, e, FLAGS),
