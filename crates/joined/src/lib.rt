@@ -34,17 +34,10 @@ fn rests_at(nodes: &[u64], links: &[u64], n: u64) -> bool
         && flagged_at(nodes, links, n)
 }
 
-#[tactic(auto, using(lists::proofs::EachLaws::every_step), unfolding(resting::specs::Joined::rest_in, lists::specs::Each::every))]
 fn rest(nodes: &[u64], links: &[u64]) -> bool
     ensures { result ≡ rest_in nodes.now links.now }
 {
-    let count = room::counted(nodes);
-    for n in 0..count {
-        if !rests_at(nodes, links, n) {
-            return false;
-        }
-    }
-    true
+    (0..room::counted(nodes)).all(|n| rests_at(nodes, links, n))
 }
 
 #[tactic(auto, unfolding(resting::specs::Joined::joined_in))]

@@ -76,18 +76,10 @@ fn due(nodes: &[u64], e: u64) -> bool
     may_wait(nodes, e) && lives(nodes, e)
 }
 
-#[tactic(auto, unfolding(lists::specs::Sum::sum))]
 fn count_due(nodes: &[u64]) -> u64
     ensures { result ≡ count (due nodes.now) (counted_in nodes.now) }
 {
-    let end = room::counted(nodes);
-    let mut c: u64 = 0;
-    for n in 0..end {
-        if due(nodes, n) {
-            c += 1;
-        }
-    }
-    c
+    (0..room::counted(nodes)).filter(|e| due(nodes, *e)).count() as u64
 }
 
 #[tactic(auto, unfolding(resting::specs::Queued::idle))]

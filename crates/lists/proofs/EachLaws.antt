@@ -1,4 +1,8 @@
 -- What the Boolean loops mean: every number, every slot of a list, and how many of them. Assumes nothing.
+use Rattle.std.specs.Prelude.{map, ◌++◌, ◌&&◌, cond}
+use Rattle.std.specs.List.{list_all, range_with_len, fold, count_by}
+use Rattle.std.proofs.lemmas.List.FromFn.{map-range_with_len_more}
+use Rattle.std.proofs.lemmas.List.Folds.{list_all-append, list_all-map}
 use mathlib.Core.Path.{◌≡◌, refl, sym, ap, ◌∙◌}
 use mathlib.Core.Logic.{◌⊎◌, inl, inr}
 use mathlib.Core.Bool.{Bool, true, false}
@@ -8,7 +12,7 @@ use native.Mathlib.Omega.{arith}
 use lib.Dec.{eqb}
 use lib.ListN.{length}
 use borrow.Author.Tests.{ne_eqb, eqb-true, eqb-false}
-use Rattle.lists.specs.Sum.{bit, count, occ, All}
+use Rattle.lists.specs.Sum.{bit, count, occ, All, sum, count}
 use Rattle.lists.specs.Walk.{slots}
 use Rattle.lists.specs.Each.{both, either, pick, every, along, tally, keep}
 use Rattle.lists.proofs.SumLaws.{bit_true, bit_false, clash, occ_cons, sum_same, sum_occ, occ_none}
@@ -152,6 +156,39 @@ every_step p n e h = every_complete p (n + 1) (λ k l. go k l (eqb k n) refl)
     go : (k : ℕ) → k < n + 1 → (b : Bool) → eqb k n ≡ b → p k ≡ true
     go k l true t = ap p (eqb-true k n t) ∙ h
     go k l false t = let q : k ≡ n → ⊥ = eqb-false k n t in every_sound p n e k (omega arith)
+
+-- ---- chains over the numbers below n
+fold_more : (g : ℕ → ℕ → ℕ) (z a n : ℕ) → fold g z (range_with_len a (suc n)) ≡ g (fold g z (range_with_len a n)) (a + n)
+fold_more g z a zero = ap (g z) (omega arith)
+fold_more g z a (suc n) =
+    let e : a + 1 + n ≡ a + suc n = omega arith in
+    fold_more g (g z a) (a + 1) n ∙ ap (g (fold g (g z a) (range_with_len (a + 1) n))) e
+
+pub all_every : (p : ℕ → Bool) (n : ℕ) → list_all p (range_with_len 0 n) ≡ every p n
+unfolding every
+all_every p zero = refl
+all_every p (suc n) =
+    let e : n + 1 ≡ suc n = omega arith in
+    let more : map p (range_with_len 0 (suc n)) ≡ map p (range_with_len 0 n) ++ (p n ∷ []) = ap (λ (m : ℕ). map p (range_with_len 0 m)) (sym e) ∙ map-range_with_len_more p 0 n n (omega arith) in
+    let here : list_all (λ b. b) (map p (range_with_len 0 n)) ≡ every p n = list_all-map (λ b. b) p (range_with_len 0 n) ∙ all_every p n in
+    sym (list_all-map (λ b. b) p (range_with_len 0 (suc n))) ∙ ap (list_all (λ b. b)) more ∙ list_all-append (λ b. b) (map p (range_with_len 0 n)) (p n ∷ []) ∙ rw here (both_ways (every p n) (p n))
+  where
+    both_ways : (a b : Bool) → (a && (b && true)) ≡ elim b [ true ↦ a | false ↦ false ]
+    both_ways true true = refl
+    both_ways true false = refl
+    both_ways false true = refl
+    both_ways false false = refl
+
+pub count_range : (p : ℕ → Bool) (n : ℕ) → count_by p (range_with_len 0 n) ≡ count p n
+unfolding sum
+count_range p zero = refl
+count_range p (suc n) =
+    let e : 0 + n ≡ n = omega arith in
+    rw (fold_more (λ k x. k + cond (p x) 1 0) 0 0 n, e, count_range p n, cond_bit (p n))
+  where
+    cond_bit : (b : Bool) → cond b 1 0 ≡ bit b
+    cond_bit true = refl
+    cond_bit false = refl
 
 module _ (next : ℕ → ℕ) (p : ℕ → Bool) where
   pub along_out : (b w : ℕ) → b ≤ 0 → along next p b w ≡ true

@@ -1,9 +1,13 @@
 -- `joined::rest` meets its contract. Assumes nothing.
-use Rattle.lists.proofs.EachLaws.{every_fails}
-use Rattle.resting.specs.Joined.{rest_in}
-use mathlib.Core.Path.{sym}
+use Rattle.std.proofs.Common.{rules, tests, arith, refl, ◌∙◌}
+use Rattle.std.proofs.lemmas.Iterator.{YieldsList-from_range}
+use Rattle.std.proofs.lemmas.Iterator.Search.{all_from_yields_List}
+use Rattle.lists.proofs.EachLaws.{all_every}
+use Rattle.resting.specs.Joined.{rests_at, rest_in}
 use Rattle.joined.proofs.rest.Goals as goal
 
-pub returns-then-not-rests_at : goal.returns-then-not-rests_at
+pub returns : goal.returns
 unfolding rest_in
-returns-then-not-rests_at c = rw (← c.counted-count.ensures) (sym (every_fails _ _ _ c.loop-n-test.true (sym c.if-not-rests_at.ensures)))
+returns c =
+    let n = c.counted.result in
+    rw (← c.counted.ensures) (all_from_yields_List (rests_at c.args.nodes.now c.args.links.now) _ _ _ c.all.ensures.ran (YieldsList-from_range 0 n n refl (omega arith)) (λ x b q k. search (rules, tests)) ∙ all_every (rests_at c.args.nodes.now c.args.links.now) n)

@@ -1,9 +1,0 @@
--- `joined::rest` meets its contract. Assumes nothing.
-use Rattle.lists.specs.Each.{every}
-use Rattle.resting.specs.Joined.{rests_at}
-use mathlib.Core.Bool.{true}
-use mathlib.Core.Path.{◌≡◌}
-use Rattle.joined.proofs.rest.Given as goal
-
-abbrev pub invariant-loop-n : goal.invariant-loop-n
-invariant-loop-n l = every (rests_at l.nodes l.links) l.n ≡ true
