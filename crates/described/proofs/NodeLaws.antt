@@ -1,24 +1,29 @@
--- The nodes one after the other, by what the code finds on its way. Assumes nothing.
-use mathlib.Core.Path.{◌≡◌, refl}
+-- The nodes one after the other, by the chain of the code. Assumes nothing.
+use Rattle.std.specs.Prelude.{map, ◌++◌}
+use Rattle.std.specs.List.{list_all, range_with_len}
+use Rattle.std.proofs.lemmas.List.FromFn.{map-range_with_len_more}
+use Rattle.std.proofs.lemmas.List.Folds.{list_all-append, list_all-map}
+use mathlib.Core.Path.{◌≡◌, refl, sym, ap, ◌∙◌}
 use mathlib.Core.Bool.{Bool, true, false, ◌&&◌}
-use mathlib.Core.List.{List}
-use Prim.Native.Nat.{ℕ, zero, suc, ◌<◌}
+use mathlib.Core.List.{List, [], ◌∷◌}
+use Prim.Native.Nat.{ℕ, zero, suc, ◌+◌}
 use native.Mathlib.Omega.{arith}
-use lib.Dec.{ltb}
 use lib.IntN.{ℤ}
-use borrow.Author.Tests.{ltb-true, ltb-false}
 use Rattle.telling.specs.Nodes.{node_in, nodes_in}
 
-and_false : (b : Bool) → (b && false) ≡ false
-and_false true = refl
-and_false false = refl
-
--- one node that fails is enough
-pub every_false : (nodes : List ℕ) (used : List ℤ) (n count : ℕ) → n < count → node_in nodes used n ≡ false → nodes_in nodes used count ≡ false
-unfolding nodes_in
-every_false nodes used n zero h e = absurd (omega arith)
-every_false nodes used n (suc count) h e = go (ltb n count) refl (λ l. every_false nodes used n count l e)
-  where
-    go : (b : Bool) → ltb n count ≡ b → (n < count → nodes_in nodes used count ≡ false) → (node_in nodes used count && nodes_in nodes used count) ≡ false
-    go true t k = rw (k (ltb-true n count t)) (and_false _)
-    go false t k = let q : n ≡ count = omega (arith, ltb-false n count t) in rw (← q, e)
+module _ (nodes : List ℕ) (used : List ℤ) where
+  pub every_node_range : (n : ℕ) → list_all (node_in nodes used) (range_with_len 0 n) ≡ nodes_in nodes used n
+  unfolding nodes_in
+  every_node_range zero = refl
+  every_node_range (suc n) =
+      let p : ℕ → Bool = node_in nodes used in
+      let e : n + 1 ≡ suc n = omega arith in
+      let more : map p (range_with_len 0 (suc n)) ≡ map p (range_with_len 0 n) ++ (p n ∷ []) = ap (λ (m : ℕ). map p (range_with_len 0 m)) (sym e) ∙ map-range_with_len_more p 0 n n (omega arith) in
+      let here : list_all (λ b. b) (map p (range_with_len 0 n)) ≡ nodes_in nodes used n = list_all-map (λ b. b) p (range_with_len 0 n) ∙ every_node_range n in
+      sym (list_all-map (λ b. b) p (range_with_len 0 (suc n))) ∙ ap (list_all (λ b. b)) more ∙ list_all-append (λ b. b) (map p (range_with_len 0 n)) (p n ∷ []) ∙ rw here (swap (nodes_in nodes used n) (p n))
+    where
+      swap : (a b : Bool) → (a && (b && true)) ≡ (b && a)
+      swap true true = refl
+      swap true false = refl
+      swap false true = refl
+      swap false false = refl

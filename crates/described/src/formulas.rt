@@ -1,15 +1,13 @@
 // The formula of a node: where its cells lie, and what they may name.
 ghost use Rattle.std.specs.Prelude.{◌≡◌};
-ghost use Rattle.telling.specs.Formulas.{own_cells, cell_lower, reads_lower, formula_in};
+ghost use Rattle.telling.specs.Formulas.{own_cells, reads_lower, formula_in};
 
 use crate::rank;
-use counts::room::cell_room;
-use formula::cells::{cell_at, name};
+use formula::cells::{cell_count, name_at};
 use formula::legal::legal;
 use formula::scans::read_cells;
 use primitive::rows::{CELLS, NODE, READS, START};
 use primitive::words;
-use trees::cells::Cell;
 
 // The cells of node n's formula; none where they do not lie inside the cells that are lent.
 pub fn own_cells<'a>(nodes: &[u64], cells: &'a [i64], n: u64) -> &'a [i64]
@@ -17,7 +15,7 @@ pub fn own_cells<'a>(nodes: &[u64], cells: &'a [i64], n: u64) -> &'a [i64]
 {
     let start = words::get(nodes, NODE, n, START);
     let count = words::get(nodes, NODE, n, CELLS);
-    let room = cell_room(cells);
+    let room = cell_count(cells);
     if count > room || start > room - count {
         return &cells[..0];
     }
@@ -26,25 +24,13 @@ pub fn own_cells<'a>(nodes: &[u64], cells: &'a [i64], n: u64) -> &'a [i64]
     &cells[from..to]
 }
 
-// Whether the cell names nothing, or a node of lower rank than n.
-#[tactic(auto, unfolding(telling::specs::Formulas::cell_lower))]
-fn cell_lower(c: Cell, n: u64) -> bool
-    ensures { result ≡ cell_lower n c }
-{
-    name(c).is_none_or(|m| rank::lower(m, n))
-}
-
 // Whether every read cell names a node of lower rank than n.
 fn reads_lower(cells: &[i64], n: u64) -> bool
     ensures { result ≡ reads_lower cells.now n }
 {
-    let end = cells.len() as u64 / 2;
-    for i in 0..end {
-        if !cell_lower(cell_at(cells, i), n) {
-            return false;
-        }
-    }
-    true
+    (0..cell_count(cells))
+        .filter_map(|i| name_at(cells, i))
+        .all(|m| rank::lower(m, n))
 }
 
 // Whether the cells are a formula that node n may have, with the number of read cells that its row says.

@@ -67,14 +67,8 @@ fn node(nodes: &[u64], cells: &[i64], n: u64) -> bool
 }
 
 // The nodes below `count`.
-#[tactic(auto, using(crate::proofs::NodeLaws::every_false), unfolding(telling::specs::Nodes::nodes_in))]
 pub fn every_node(nodes: &[u64], cells: &[i64], count: u64) -> bool
     ensures { result ≡ nodes_in nodes.now cells.now count }
 {
-    for n in 0..count {
-        if !node(nodes, cells, n) {
-            return false;
-        }
-    }
-    true
+    (0..count).all(|n| node(nodes, cells, n))
 }

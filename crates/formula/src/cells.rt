@@ -1,5 +1,5 @@
 // One cell: a code and an operand, and the table of codes.
-ghost use Rattle.std.specs.Prelude.{◌≡◌};
+ghost use Rattle.std.specs.Prelude.{◌≡◌, ◌/◌, length};
 ghost use Rattle.trees.specs.Cells.{natural_of, cell_of, bare_of, read_of, arity_of, name_of, cell_at, end_of};
 
 use primitive::words;
@@ -69,12 +69,19 @@ pub fn name(c: Cell) -> Option<u64>
     }
 }
 
+// How many whole cells there are.
+pub fn cell_count(cells: &[i64]) -> u64
+    ensures { result ≡ length cells.now / 2 }
+{
+    cells.len() as u64 / 2
+}
+
 // Cell i of a list of cells; past the end it is bad.
 #[tactic(auto, unfolding(trees::specs::Cells::cell_at))]
 pub fn cell_at(cells: &[i64], i: u64) -> Cell
     ensures { result ≡ cell_at cells.now i }
 {
-    if i < cells.len() as u64 / 2 {
+    if i < cell_count(cells) {
         cell_of(
             words::at(cells, i * 2),
             words::at(cells, i * 2 + 1),

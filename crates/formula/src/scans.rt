@@ -2,7 +2,7 @@
 ghost use Rattle.std.specs.Prelude.{◌≡◌, suc, min};
 ghost use Rattle.trees.specs.Names.{read_cells, most_height, height_in, tallest_in};
 
-use crate::cells::name_at;
+use crate::cells::{cell_count, name_at};
 use primitive::rows::{LEVEL, NODE};
 use primitive::words;
 
@@ -12,28 +12,20 @@ pub const MOST_HEIGHT: u64 = 64;
 pub fn read_cells(cells: &[i64]) -> u64
     ensures { result ≡ read_cells cells.now }
 {
-    let end = cells.len() as u64 / 2;
-    let mut count: u64 = 0;
-    for i in 0..end {
-        if name_at(cells, i).is_some() {
-            count += 1;
-        }
-    }
-    count
+    (0..cell_count(cells))
+        .filter_map(|i| name_at(cells, i))
+        .count() as u64
 }
 
 // The greatest height that the cells name, 0 if they name none.
 fn tallest(nodes: &[u64], cells: &[i64]) -> u64
     ensures { result ≡ tallest_in nodes.now cells.now }
 {
-    let end = cells.len() as u64 / 2;
-    let mut most: u64 = 0;
-    for i in 0..end {
-        if let Some(n) = name_at(cells, i) {
-            most = most.max(words::get(nodes, NODE, n, LEVEL));
-        }
-    }
-    most
+    (0..cell_count(cells))
+        .filter_map(|i| name_at(cells, i))
+        .map(|n| words::get(nodes, NODE, n, LEVEL))
+        .max()
+        .unwrap_or(0)
 }
 
 // The height of a computed with these cells; what is over the greatest allowed is one more than that.

@@ -7,9 +7,9 @@ use Rattle.described.proofs.formulas.own_cells.Goals.{then-count-room-via-then-c
 pub returns-then-count-room : goal.returns-then-count-room
 returns-then-count-room c =
     own_out _ _ _ c.get-start.ensures c.get-count.ensures (elim c.then-count-room.branch [
-      | then-count-room-via-then-count-room w ↦ omega (arith, c.cell_room-room.ensures)
-      | then-count-room-via-else-count-room+then-start-room w ↦ omega (arith, c.cell_room-room.ensures)
+      | then-count-room-via-then-count-room w ↦ omega (arith, c.cell_count-room.ensures)
+      | then-count-room-via-else-count-room+then-start-room w ↦ omega (arith, c.cell_count-room.ensures)
     ])
 
 pub returns : goal.returns
-returns c = own_in _ _ _ c.get-start.ensures c.get-count.ensures (omega (arith, c.cell_room-room.ensures))
+returns c = own_in _ _ _ c.get-start.ensures c.get-count.ensures (omega (arith, c.cell_count-room.ensures))

@@ -1,16 +1,22 @@
 -- `described::formulas::reads_lower` meets its contract. Assumes nothing.
-use Rattle.described.proofs.FormulaLaws.{lower_start, lower_false, lower_true, lower_done}
-use mathlib.Core.Path.{sym, ◌∙◌}
+use Rattle.std.proofs.Common.{rules, tests, arith, ap, ◌∙◌}
+use Rattle.std.specs.List.{list_all}
+use Rattle.std.proofs.lemmas.Iterator.{YieldsList-from_range}
+use Rattle.std.proofs.lemmas.Iterator.Consumers.{YieldsList-from_filter_map}
+use Rattle.std.proofs.lemmas.Iterator.Search.{all_from_yields_List}
+use Rattle.trees.specs.Cells.{cell_at, name_of}
+use Rattle.trees.proofs.ScanLaws.{all_named_range}
+use Rattle.telling.specs.Formulas.{lower_rank, reads_lower}
+use Rattle.described.proofs.FormulaLaws.{lower_all}
 use Rattle.described.proofs.formulas.reads_lower.Goals as goal
 
-pub loop-i-init : goal.loop-i-init
-loop-i-init c = lower_start _ _
-
-pub returns-then-not-cell_lower : goal.returns-then-not-cell_lower
-returns-then-not-cell_lower c = lower_false _ _ _ c.loop-i-test.true c.cell_at.ensures c.cell_lower.ensures c.if-not-cell_lower.true ∙ c.loop-i.invariant
-
-pub loop-i-preserved : goal.loop-i-preserved
-loop-i-preserved c = lower_true _ _ _ c.loop-i-test.true c.cell_at.ensures c.cell_lower.ensures c.if-not-cell_lower.false ∙ c.loop-i.invariant
-
 pub returns : goal.returns
-returns c = sym (lower_done _ _ _ c.loop-i-test.false) ∙ c.loop-i.invariant
+unfolding reads_lower
+returns c =
+    let ws = c.args.cells.now in
+    let n = c.cell_count.result in
+    let every = all_named_range ws in
+    all_from_yields_List (λ m. lower_rank m c.args.n) _ _ _ c.all.ensures.ran
+    (YieldsList-from_filter_map _ (λ i. name_of (cell_at ws i)) (YieldsList-from_range 0 n n c.filter_map.ensures.source (omega arith)) c.filter_map.ensures.closure (λ x r q k. search (rules, tests)))
+    (λ x b q k. search (rules, tests))
+    ∙ ap (list_all (λ m. lower_rank m c.args.n)) (rw c.cell_count.ensures every) ∙ lower_all c.args.n _

@@ -1,19 +1,19 @@
 -- `formula::scans::read_cells` meets its contract. Assumes nothing.
-use Rattle.trees.proofs.ScanLaws.{reads_start, reads_turns, reads_done, reads_none, reads_one}
-use native.Mathlib.Omega.{arith}
+use Rattle.std.proofs.Common.{rules, arith, length, ap, ◌∙◌}
+use borrow.Author.Tests.{tests}
+use Rattle.std.proofs.lemmas.Iterator.{YieldsList-from_range}
+use Rattle.std.proofs.lemmas.Iterator.Consumers.{YieldsList-from_filter_map, count_from_yields_List}
+use Rattle.trees.specs.Cells.{cell_at, name_of}
+use Rattle.trees.specs.Names.{read_cells}
+use Rattle.trees.proofs.ScanLaws.{all_named_range}
 use Rattle.formula.proofs.scans.read_cells.Goals as goal
-use Rattle.formula.proofs.scans.read_cells.Goals.{then-is_some, else-is_some}
-
-pub loop-i-init : goal.loop-i-init
-loop-i-init c = (omega arith, reads_start _)
-
-pub loop-i-preserved : goal.loop-i-preserved
-loop-i-preserved c =
-    let turn = reads_turns c.args.cells.now c.loop-i.i c.loop-i-test.true in
-    elim c.if-is_some.branch [
-      | then-is_some w ↦ let one = reads_one _ c.name_at.ensures c.is_some.ensures w.if-is_some.true in (omega arith, omega arith)
-      | else-is_some w ↦ let none = reads_none _ c.name_at.ensures c.is_some.ensures w.if-is_some.false in (omega arith, omega arith)
-    ]
 
 pub returns : goal.returns
-returns c = omega (arith, reads_done c.args.cells.now c.loop-i.i c.loop-i-test.false)
+unfolding read_cells
+returns c =
+    let ws = c.args.cells.now in
+    let n = c.cell_count.result in
+    let every = all_named_range ws in
+    count_from_yields_List _ _ c.count.ensures.ran
+    (YieldsList-from_filter_map _ (λ i. name_of (cell_at ws i)) (YieldsList-from_range 0 n n c.filter_map.ensures.source (omega arith)) c.filter_map.ensures.closure (λ x r q k. search (rules, tests)))
+    ∙ ap length (rw c.cell_count.ensures every)
