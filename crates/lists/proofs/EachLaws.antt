@@ -143,19 +143,6 @@ module _ (next : ℕ → ℕ) (p : ℕ → Bool) where
       at i false e = rw (keep_no p x (slots next b (next x)) e) (omega (arith, i, bit_false (p x) e))
 
 -- ---- the ways through one turn of the code
-pub every_fails : (p : ℕ → Bool) (n k : ℕ) → k < n → p k ≡ false → every p n ≡ false
-every_fails p n k h e = go (every p n) refl
-  where
-    go : (b : Bool) → every p n ≡ b → b ≡ false
-    go true t = absurd (clash (p k) (every_sound p n t k h) e)
-    go false t = refl
-
-pub every_step : (p : ℕ → Bool) (n : ℕ) → every p n ≡ true → p n ≡ true → every p (n + 1) ≡ true
-every_step p n e h = every_complete p (n + 1) (λ k l. go k l (eqb k n) refl)
-  where
-    go : (k : ℕ) → k < n + 1 → (b : Bool) → eqb k n ≡ b → p k ≡ true
-    go k l true t = ap p (eqb-true k n t) ∙ h
-    go k l false t = let q : k ≡ n → ⊥ = eqb-false k n t in every_sound p n e k (omega arith)
 
 -- ---- chains over the numbers below n
 fold_more : (g : ℕ → ℕ → ℕ) (z a n : ℕ) → fold g z (range_with_len a (suc n)) ≡ g (fold g z (range_with_len a n)) (a + n)
