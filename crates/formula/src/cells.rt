@@ -82,10 +82,7 @@ pub fn cell_at(cells: &[i64], i: u64) -> Cell
     ensures { result ≡ cell_at cells.now i }
 {
     if i < cell_count(cells) {
-        cell_of(
-            words::at(cells, i * 2),
-            words::at(cells, i * 2 + 1),
-        )
+        cell_of(words::at(cells, i * 2), words::at(cells, i * 2 + 1))
     } else {
         Cell::Bad
     }
