@@ -29,13 +29,11 @@ module _ (t : Tables) (ws : List ℤ) (out w : List ℕ) (over : Bool) (place : 
       let p : played step.Stop t ws out ≡ play_on t ws out w (Turn n last) = rw (lt-ltb (length w) n h, play_on) in
       p ∙ play_as (Turn n last) k
 
-  pub play_turn : {n : ℕ} {last : Bool} {s : Step} {x : Turned} → a ≡ Turn n last → n ≤ length w → s ≡ step_of x.turn → x ≡ turn_in t ws out (take (n - 0) w) last → played s x.after x.words x.out ≡ play_in t ws out w over place
+  pub play_turn : {n : ℕ} {last : Bool} {s : Step} {x : Turned} → a ≡ Turn n last → n ≤ length w → s ≡ step_of x.turn → x ≡ turn_in t ws out (take n w) last → played s x.after x.words x.out ≡ play_in t ws out w over place
   unfolding play_on
   play_turn {n} {last} {s} {x} k h e y =
       let p : played_by (turn_in t ws out (take n w) last) ≡ play_on t ws out w (Turn n last) = rw (le-ltb (length w) n h, play_on) in
-      let m : n - 0 ≡ n = omega arith in
-      let y' : x ≡ turn_in t ws out (take n w) last = y ∙ ap (λ (j : ℕ). turn_in t ws out (take j w) last) m in
-      ap (λ (z : Step). played z x.after x.words x.out) e ∙ ap played_by y' ∙ p ∙ play_as (Turn n last) k
+      ap (λ (z : Step). played z x.after x.words x.out) e ∙ ap played_by y ∙ p ∙ play_as (Turn n last) k
 
   pub play_next : {used : ℕ} {e : Emptied} → a ≡ Script used → e ≡ emptying t.nodes t.links t.values t.cells → played (step.Next used) (empty_of e t.log) ws out ≡ play_in t ws out w over place
   unfolding play_on

@@ -83,12 +83,12 @@ module _ (w : List ℕ) (ws : List ℤ) {f : Found} {after : List ℤ} (found : 
       let h = held_pair (length ws) (reading w) p.0 p.1 p.2 in
       omega (arith, p.3, (pair_behind w p.0 p.1 h.0).0)
 
-  pub turn_found : (t : Tables) (out : List ℕ) (over : Bool) {a : Answer} {after-out : List ℕ} {b : ℕ} → a ≡ command_in t.nodes t.links t.values t.cells t.log (take (n - 0) after) → buffer after-out b ≡ put (buffer out 0) (answer a.code a.value a.runs a.log) → turned (Answered (length w - left) b) (tables a.nodes a.links a.values a.cells a.log) after after-out ≡ turn_in t ws out w over
+  pub turn_found : (t : Tables) (out : List ℕ) (over : Bool) {a : Answer} {after-out : List ℕ} {b : ℕ} → a ≡ command_in t.nodes t.links t.values t.cells t.log (take n after) → buffer after-out b ≡ put (buffer out 0) (answer a.code a.value a.runs a.log) → turned (Answered (length w - left) b) (tables a.nodes a.links a.values a.cells a.log) after after-out ≡ turn_in t ws out w over
   turn_found t out over {a} {after-out} {b} c o =
       let p = found_pair w ws found left n k in
       let zs = p.0 in
-      let m : n - 0 ≡ length zs = omega (arith, p.4) in
-      let x : take (n - 0) after ≡ zs = ap (λ (j : ℕ). take j after) m ∙ ap (take (length zs)) p.5 ∙ take-append_seam zs (drop (length zs) ws) in
+      let m : n ≡ length zs = omega (arith, p.4) in
+      let x : take n after ≡ zs = ap (λ (j : ℕ). take j after) m ∙ ap (take (length zs)) p.5 ∙ take-append_seam zs (drop (length zs) ws) in
       let c' : a ≡ command_in t.nodes t.links t.values t.cells t.log zs = c ∙ ap (λ (l : List ℤ). command_in t.nodes t.links t.values t.cells t.log l) x in
       ap (λ (j : ℕ). turned (Answered (length w - j) b) (tables a.nodes a.links a.values a.cells a.log) after after-out) p.3
       ∙ ap (λ (l : List ℤ). turned (Answered (length w - length p.1) b) (tables a.nodes a.links a.values a.cells a.log) l after-out) p.5

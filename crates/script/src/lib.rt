@@ -13,7 +13,7 @@ use spelling::lines::Found;
 use text::answers::{put_answer, put_unreadable};
 use text::lines::pair;
 
-// over: nothing comes behind the window.
+// over: nothing comes behind the window. A struct of what is lent would hold seven `&mut`, and the clause would say of each that it is the same still.
 pub fn turn(
     nodes: &mut [u64],
     links: &mut [u64],
@@ -28,22 +28,15 @@ pub fn turn(
     ensures { turned result (tables nodes.new links.new values.new cells.new log.new) words.new out.new ≡ turn_in (tables nodes.old links.old values.old cells.old log.old) words.old out.old window.now over }
 {
     match pair(window, words) {
-        Found::Short => {
-            if over {
-                if window.len() == 0 {
-                    return Turn::Ended(0);
-                }
-                return Turn::Ended(put_unreadable(out));
+        Found::Short if !over => Turn::More,
+        Found::Short if window.is_empty() => Turn::Ended(0),
+        Found::Short | Found::Unreadable => Turn::Ended(put_unreadable(out)),
+        Found::Pair { behind, count } => {
+            let a = command(nodes, links, values, cells, log, &words[..count]);
+            Turn::Answered {
+                used: window.len() - behind,
+                bytes: put_answer(out, a.code, a.value, a.runs, log),
             }
-            Turn::More
-        }
-        Found::Unreadable => Turn::Ended(put_unreadable(out)),
-        Found::Pair(left, n) => {
-            let a = command(nodes, links, values, cells, log, &words[0..n]);
-            Turn::Answered(
-                window.len() - left,
-                put_answer(out, a.code, a.value, a.runs, log),
-            )
         }
     }
 }

@@ -8,12 +8,12 @@ use crate::turns::Turn;
 use operations::emptying::empty;
 use packs::{Act, Place, decide};
 
-// What a step comes to; `used` bytes of the window are done, out[0..bytes] is an answer.
-#[derive(Clone, Copy)]
+// What a step comes to.
+#[derive(Clone, Copy, PartialEq, Eq, Debug)]
 pub enum Step {
     Read,
-    // Answered(used, bytes)
-    Answered(usize, usize),
+    // A pair was answered: `used` bytes of the window are done, out[..bytes] is the answer.
+    Answered { used: usize, bytes: usize },
     // The answers of a script are over, the last of so many bytes.
     Ended(usize),
     // The next script begins behind so many bytes, on empty tables.
@@ -24,16 +24,19 @@ pub enum Step {
     Stop,
 }
 
-fn step_of(turned: Turn) -> Step
-    ensures { result ≡ step_of turned }
-{
-    match turned {
-        Turn::More => Step::Read,
-        Turn::Answered(used, bytes) => Step::Answered(used, bytes),
-        Turn::Ended(bytes) => Step::Ended(bytes),
+impl From<Turn> for Step {
+    ghost from_gives = { λ turned step. step ≡ step_of turned };
+
+    fn from(turned: Turn) -> Step {
+        match turned {
+            Turn::More => Step::Read,
+            Turn::Answered { used, bytes } => Step::Answered { used, bytes },
+            Turn::Ended(bytes) => Step::Ended(bytes),
+        }
     }
 }
 
+// Lent one by one, as to `turn`.
 pub fn play(
     nodes: &mut [u64],
     links: &mut [u64],
@@ -54,17 +57,8 @@ pub fn play(
             if window.len() < n {
                 return Step::Stop;
             }
-            step_of(turn(
-                nodes,
-                links,
-                values,
-                cells,
-                log,
-                words,
-                out,
-                &window[0..n],
-                last,
-            ))
+            let script = &window[..n];
+            Step::from(turn(nodes, links, values, cells, log, words, out, script, last))
         }
         Act::Script(used) => {
             empty(nodes, links, values, cells);

@@ -1,10 +1,10 @@
 // What a turn comes to.
-// More: the window holds no whole pair and the input goes on.
-// Answered(used, bytes): a pair was answered; `used` bytes of the window are done, out[0..bytes] is the answer.
-// Ended(bytes): the run ends; out[0..bytes] is the last answer, empty where the input ended between pairs.
-#[derive(Clone, Copy)]
+#[derive(Clone, Copy, PartialEq, Eq, Debug)]
 pub enum Turn {
+    // The window holds no whole pair, and the input goes on.
     More,
-    Answered(usize, usize),
+    // A pair was answered: `used` bytes of the window are done, out[..bytes] is the answer.
+    Answered { used: usize, bytes: usize },
+    // The run ends: out[..bytes] is the last answer, empty where the input ended between pairs.
     Ended(usize),
 }

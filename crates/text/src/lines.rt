@@ -88,7 +88,10 @@ fn second(code: i64, s: &[u8], words: &mut [i64]) -> Found
         End::At(j) => match args_line(&s[..j]) {
             Some(n) if n < words.len() => {
                 store_pair(words, code, &s[..j]);
-                Found::Pair(s.len() - j - 1, n + 1)
+                Found::Pair {
+                    behind: s.len() - j - 1,
+                    count: n + 1,
+                }
             }
             _ => Found::Unreadable,
         },

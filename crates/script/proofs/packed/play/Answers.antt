@@ -13,7 +13,7 @@ returns-in-Read c = play_as _ _ _ _ _ _ c.decide.ensures _ c.in-Read.is
 -- What `turn` and `empty` were lent keeps its length, and nothing after them changes it; the search for that is dear.
 
 pub returns-else-window-n : goal.returns-else-window-n
-returns-else-window-n c = play_turn _ _ _ _ _ _ c.decide.ensures c.in-Turn.is c.if-window-n.false c.step_of.ensures c.turn.ensures
+returns-else-window-n c = play_turn _ _ _ _ _ _ c.decide.ensures c.in-Turn.is c.if-window-n.false c.from.ensures c.turn.ensures
 
 pub returns-in-Script : goal.returns-in-Script
 returns-in-Script c = play_next _ _ _ _ _ _ c.decide.ensures c.in-Script.is c.empty.ensures

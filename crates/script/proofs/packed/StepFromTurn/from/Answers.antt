@@ -1,7 +1,7 @@
--- `script::packed::step_of` meets its contract. Assumes nothing.
+-- `script::packed::StepFromTurn::from` meets its contract. Assumes nothing.
 use borrow.Author.Rules.{rules}
 use Rattle.script.specs.Packed.{step_of}
-use Rattle.script.proofs.packed.step_of.Goals as goal
+use Rattle.script.proofs.packed.StepFromTurn.from.Goals as goal
 
 pub returns-in-More : goal.returns-in-More
 unfolding step_of
