@@ -182,7 +182,7 @@ fn judged<F: Read>(
     state: State,
 ) -> State {
     match what {
-        Step::Answered(_, bytes) => compared(rt, out, bytes, kept, files, state),
+        Step::Answered { bytes, .. } => compared(rt, out, bytes, kept, files, state),
         Step::Ended(bytes) => compared(rt, out, bytes, kept, files, state),
         Step::Next(_) => compared(rt, b"%\n", 2, kept, files, state),
         // No stored answer may be left.
@@ -206,7 +206,7 @@ fn ended(bytes: usize, state: State) -> State {
 fn stood(what: Step, state: State) -> State {
     match what {
         Step::Read => wants(state),
-        Step::Answered(used, _) => counted(moved(state, used, Place::Open)),
+        Step::Answered { used, .. } => counted(moved(state, used, Place::Open)),
         Step::Ended(bytes) => ended(bytes, state),
         Step::Next(used) => passed(moved(state, used, Place::Open)),
         Step::Within(used) => moved(state, used, Place::InLine),

@@ -82,7 +82,7 @@ fn step<R: Read>(
                 on: true,
             }
         }
-        Turn::Answered(used, bytes) => State {
+        Turn::Answered { used, bytes } => State {
             at: after(at, used, end),
             end: end,
             over: over,

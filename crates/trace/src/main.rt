@@ -62,7 +62,7 @@ fn moved(state: State, used: usize, place: Place, on: bool) -> State {
 fn written(rt: &(impl Print + Eprint), out: &[u8], what: Step) -> bool {
     let mut to = io::writer(rt);
     match what {
-        Step::Answered(_, bytes) => send(rt, &mut to, out, bytes),
+        Step::Answered { bytes, .. } => send(rt, &mut to, out, bytes),
         Step::Ended(bytes) => send(rt, &mut to, out, bytes),
         Step::Next(_) => send(rt, &mut to, b"%\n", 2),
         Step::Read => true,
@@ -75,7 +75,7 @@ fn written(rt: &(impl Print + Eprint), out: &[u8], what: Step) -> bool {
 // Whether the tables are to be shown.
 fn shows(tables: bool, what: Step) -> bool {
     match what {
-        Step::Answered(_, _) => tables,
+        Step::Answered { .. } => tables,
         Step::Read => false,
         Step::Ended(_) => false,
         Step::Next(_) => false,
@@ -115,7 +115,7 @@ fn stood<R: Read>(
 ) -> State {
     match what {
         Step::Read => read_more(rt, from, buf, state),
-        Step::Answered(used, _) => moved(state, used, Place::Open, on),
+        Step::Answered { used, .. } => moved(state, used, Place::Open, on),
         Step::Ended(_) => moved(state, 0, Place::InLine, on),
         Step::Next(used) => moved(state, used, Place::Open, on),
         Step::Within(used) => moved(state, used, Place::InLine, on),
