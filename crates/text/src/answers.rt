@@ -4,7 +4,8 @@ ghost use Rattle.spelling.specs.Buffers.{buffer, put, pushed};
 ghost use Rattle.spelling.specs.Decimals.{glyph, digits, decimal};
 ghost use Rattle.spelling.specs.Answers.{line, row, rows, answer, unreadable_answer};
 
-// One more at out[at]; answers the next place.
+// One more at out[at]; answers the next place. Slice and place stay two: a struct of them would hold a `&mut`, and each contract would need a
+// second clause, that it is the same slice still (`self.new.held.ghost_name ≡ self.old.held.ghost_name`).
 pub fn push<T: Copy>(out: &mut [T], at: usize, x: T) -> usize
     ensures { buffer out.new result ≡ pushed (buffer out.old at) x }
 {
