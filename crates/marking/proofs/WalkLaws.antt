@@ -9,7 +9,7 @@ use native.Mathlib.Omega.{arith}
 use lib.ListN.{get_or, set, replicate}
 use lib.Seq.{set-get_or}
 use Rattle.primitive.specs.Slots.{slot_of}
-use Rattle.stack.specs.Stack.{pushed, pushed_len, popped}
+use Rattle.stack.specs.Stack.{pushed, pushed_len, top}
 use Rattle.primitive.specs.declared.slots.Slot.{Slot}
 use Rattle.primitive.specs.declared.slots.Slot.TheVariants.{At, Nothing}
 use Rattle.marking.specs.Fields.{subs, sub, next_sub_of, mutable, has}
@@ -36,27 +36,22 @@ module _ (L : List ℕ) (w : Place) (x : ℕ) {v : ℕ} {o : Slot} (p : v ≡ ne
   down_flat d = rw (← p, ← u, d, down)
 
 -- ---- a turn
-pub walk_end : (L N : List ℕ) (k : ℕ) (w : Place) → k ≤ 0 → walked L k N w ≡ N
+pub walk_end : (L N : List ℕ) (k : ℕ) (w : Place) → k ≡ 0 → walked L k N w ≡ N
 unfolding walked
-walk_end L N zero w h = refl
-walk_end L N (suc k) w h = absurd (omega arith)
+walk_end L N k w h = rw h
 
 -- n is the slot's subscriber, M what reaching it makes of the tables, f the flags that are left, o the way down
-module _ (L N : List ℕ) (k : ℕ) (w : Place) {n f : ℕ} {M : List ℕ} {o : Slot} (h : 0 < k) (i : n ≡ sub L w.link)
+module _ (L N : List ℕ) {k j : ℕ} (w : Place) {n f : ℕ} {M : List ℕ} {o : Slot} (h : k ≡ suc j) (i : n ≡ sub L w.link)
     (g : f ≡ after (visit L N w.link n)) (e : M ≡ reached L N w.link n) (u : o ≡ below M n f) where
-  turned : walked L k N w ≡ onward (walked L (k - 1)) L M w o
+  turned : walked L k N w ≡ onward (walked L j) L M w o
   unfolding turn walked
-  turned = go k h ∙ rw (← i, ← e, ← g, ← u)
-    where
-      go : (k : ℕ) → 0 < k → walked L k N w ≡ turn (walked L (k - 1)) L N w (sub L w.link)
-      go zero h = absurd (omega arith)
-      go (suc k) h = rw (sub-one (suc k))
+  turned = rw (h, ← i, ← e, ← g, ← u)
 
-  pub turn_down : {x : ℕ} → o ≡ At x → walked L k N w ≡ walked L (k - 1) M (down L w x)
+  pub turn_down : {x : ℕ} → o ≡ At x → walked L k N w ≡ walked L j M (down L w x)
   unfolding onward
   turn_down d = turned ∙ rw d
 
-  pub turn_flat : {v : Slot} → o ≡ Nothing → v ≡ slot_of w.next → walked L k N w ≡ along (walked L (k - 1)) L M w v
+  pub turn_flat : {v : Slot} → o ≡ Nothing → v ≡ slot_of w.next → walked L k N w ≡ along (walked L j) L M w v
   unfolding onward
   turn_flat d e = turned ∙ rw (d, ← e)
 
@@ -71,39 +66,32 @@ module _ (p : Rest) (L N : List ℕ) where
   along_none w d = rw d
 
   module _ (A : List ℕ) where
-    pub back_end : (len : ℕ) {t : Option (ℕ × ℕ)} → t ≡ popped A len → t ≡ None → back p L N A len ≡ N
-    unfolding back popped
+    pub back_end : (len : ℕ) {t : Option ℕ} → t ≡ top A len → t ≡ None → back p L N A len ≡ N
+    unfolding back
     back_end zero e d = refl
     back_end (suc n) e d = let z : ◌≡◌ {A = ℕ} 0 1 = cc in absurd (omega arith)
 
-    pub back_slot : (len : ℕ) {t : Option (ℕ × ℕ)} {w rest x v : ℕ} {o : Slot} → t ≡ popped A len → t ≡ Some (w, rest) → o ≡ slot_of w → o ≡ At x → v ≡ next_sub_of L x
-        → back p L N A len ≡ p N (place x v A rest)
-    unfolding back popped
+    pub back_slot : (len : ℕ) {t : Option ℕ} {w x v : ℕ} {o : Slot} → t ≡ top A len → t ≡ Some w → o ≡ slot_of w → o ≡ At x → v ≡ next_sub_of L x
+        → back p L N A len ≡ p N (place x v A (len - 1))
+    unfolding back
     back_slot zero e d u g i = let z : ◌≡◌ {A = ℕ} 0 1 = cc in absurd (omega arith)
-    back_slot (suc n) {t} {w} {rest} e d u g i =
-        let both : ◌≡◌ {A = ℕ × ℕ} (w, rest) (get_or A n 0, n) = cc in
-        let a : w ≡ get_or A n 0 = ap (λ q. q.0) both in
-        let b : rest ≡ n = ap (λ q. q.1) both in
+    back_slot (suc n) {t} {w} e d u g i =
+        let a : w ≡ get_or A n 0 = cc in
+        let b : suc n - 1 ≡ n = omega arith in
         rw (← a, ← u, g, back, ← i, b)
 
-    pub back_none : (len : ℕ) {t : Option (ℕ × ℕ)} {w rest : ℕ} {o : Slot} → t ≡ popped A len → t ≡ Some (w, rest) → o ≡ slot_of w → o ≡ Nothing
-        → back p L N A len ≡ back p L N A rest
-    unfolding back popped
+    pub back_none : (len : ℕ) {t : Option ℕ} {w : ℕ} {o : Slot} → t ≡ top A len → t ≡ Some w → o ≡ slot_of w → o ≡ Nothing → back p L N A len ≡ back p L N A (len - 1)
+    unfolding back
     back_none zero e d u g = let z : ◌≡◌ {A = ℕ} 0 1 = cc in absurd (omega arith)
-    back_none (suc n) {t} {w} {rest} e d u g =
-        let both : ◌≡◌ {A = ℕ × ℕ} (w, rest) (get_or A n 0, n) = cc in
-        let a : w ≡ get_or A n 0 = ap (λ q. q.0) both in
-        let b : rest ≡ n = ap (λ q. q.1) both in
+    back_none (suc n) {t} {w} e d u g =
+        let a : w ≡ get_or A n 0 = cc in
+        let b : suc n - 1 ≡ n = omega arith in
         rw (← a, ← u, g, back, b)
 
 -- a pop leaves fewer
-pub pop_less : (A : List ℕ) (len : ℕ) {t : Option (ℕ × ℕ)} {w rest : ℕ} → t ≡ popped A len → t ≡ Some (w, rest) → rest < len
-unfolding popped
+pub pop_less : (A : List ℕ) (len : ℕ) {t : Option ℕ} {w : ℕ} → t ≡ top A len → t ≡ Some w → len - 1 < len
 pop_less A zero e d = let z : ◌≡◌ {A = ℕ} 0 1 = cc in absurd (omega arith)
-pop_less A (suc n) {t} {w} {rest} e d =
-    let both : ◌≡◌ {A = ℕ × ℕ} (w, rest) (get_or A n 0, n) = cc in
-    let b : rest ≡ n = ap (λ q. q.1) both in
-    omega arith
+pop_less A (suc n) e d = omega arith
 
 -- ---- a stack of nothing: one more on it changes no word, and from it no way goes back
 clear : (k x : ℕ) → ◌≡◌ {A = ℕ} (get_or {A = ℕ} (replicate k 0) x 0) 0

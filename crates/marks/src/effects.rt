@@ -19,19 +19,16 @@ fn enqueue(nodes: &mut [u64], e: u64)
 }
 
 // From e up through its watching owners, each queued as it is met.
-fn climb(nodes: &mut [u64], links: &[u64], e: u64)
+fn climb(nodes: &mut [u64], links: &[u64], mut e: u64)
     ensures { nodes.new ≡ climbed links.now (node_rows nodes.old) nodes.old e }
 {
-    let mut effect = e;
-    let mut left = nodes.len() / 16;
-    while 0 < left {
-        left -= 1;
-        enqueue(nodes, effect);
-        let Slot::At(s) = slots::open(words::get(nodes, NODE, effect, SUBS)) else {
+    for _ in 0..nodes.len() / 16 {
+        enqueue(nodes, e);
+        let Slot::At(s) = slots::open(words::get(nodes, NODE, e, SUBS)) else {
             return;
         };
-        effect = words::get(links, LINK, s, SUB);
-        if flags(nodes, effect).mask(Flags::WATCHING).is_zero() {
+        e = words::get(links, LINK, s, SUB);
+        if flags(nodes, e).mask(Flags::WATCHING).is_zero() {
             return;
         }
     }

@@ -13,6 +13,7 @@ use primitive::rows::{DEPS_TAIL, LINK, NEXT_SUB, NODE, PREV_DEP, SUB, SUBS};
 use primitive::slots::Slot;
 use primitive::walk::Walk;
 use primitive::{slots, words};
+use stack::Stack;
 
 // Flags that are tested together.
 const CHANGED: Flags = Flags {
@@ -89,31 +90,26 @@ fn below(nodes: &[u64], sub: u64, flags: Flags) -> Slot
     Slot::Nothing
 }
 
-// The walk from slot s on, once a word is left aside on the way down: it lies on so many words that are nothing.
+// The walk from a slot on, once a word is left aside on the way down: it lies on so many words that are nothing.
 fn propagate_on(
     nodes: &mut [u64],
     links: &[u64],
-    s: u64,
-    over: u64,
+    mut link: u64,
+    mut next: u64,
     aside: u64,
-    deep: u64,
+    deep: usize,
     turns: usize,
 )
-    ensures { nodes.new ≡ walked links.now turns nodes.old (place s over (pushed blank deep aside) (pushed_len blank deep)) }
+    ensures { nodes.new ≡ walked links.now turns nodes.old (place link next (pushed blank deep aside) (pushed_len blank deep)) }
 {
-    let mut link = s;
-    let mut next = over;
-    let mut stack = [0u64; 1024];
-    let mut len = stack::push(&mut stack, deep, aside);
-    let mut left = turns;
-    'top: while 0 < left {
-        left -= 1;
+    let mut stack: Stack<1024> = Stack::blank(deep);
+    stack.push(aside);
+    'top: for _ in 0..turns {
         let sub = words::get(links, LINK, link, SUB);
         let flags = reach(nodes, links, link, sub);
         let Slot::At(down) = below(nodes, sub, flags) else {
             let Slot::At(along) = slots::open(next) else {
-                while let Some((w, rest)) = stack::pop(&stack, len) {
-                    len = rest;
+                while let Some(w) = stack.pop() {
                     let Slot::At(back) = slots::open(w) else {
                         continue;
                     };
@@ -132,29 +128,28 @@ fn propagate_on(
         let Slot::At(_) = slots::open(over) else {
             continue 'top;
         };
-        len = stack::push(&mut stack, len, next);
+        stack.push(next);
         next = over;
     }
 }
 
 // How high a stack of nothing is with one more on it.
-fn one_higher(len: u64) -> u64
+fn one_higher(len: usize) -> usize
     ensures { result ≡ pushed_len blank len }
 {
     if len < 1024 { len + 1 } else { len }
 }
 
-// From slot s: down where there is a way, else along, else back to what was left aside on the way down. As long as that is nothing, only its height is kept, and no
+// From a slot: down where there is a way, else along, else back to what was left aside on the way down. As long as that is nothing, only its height is kept, and no
 // stack is cleared.
 pub fn propagate(nodes: &mut [u64], links: &[u64], s: u64)
     ensures { nodes.new ≡ propagated links.now nodes.old s }
 {
     let mut link = s;
     let mut next = words::get(links, LINK, s, NEXT_SUB);
-    let mut len: u64 = 0;
-    let mut left = links.len() / 8;
-    while 0 < left {
-        left -= 1;
+    let mut len = 0;
+    let turns = links.len() / 8;
+    for turn in 0..turns {
         let sub = words::get(links, LINK, link, SUB);
         let flags = reach(nodes, links, link, sub);
         let Slot::At(down) = below(nodes, sub, flags) else {
@@ -171,7 +166,7 @@ pub fn propagate(nodes: &mut [u64], links: &[u64], s: u64)
             continue;
         };
         if next != 0 {
-            propagate_on(nodes, links, down, over, next, len, left);
+            propagate_on(nodes, links, down, over, next, len, turns - turn - 1);
             return;
         }
         len = one_higher(len);

@@ -1,5 +1,5 @@
 -- A stack with room: a pop gives back what was pushed, and what lies below stays. Assumes nothing.
-use Rattle.std.specs.Prelude.{Some, None}
+use Rattle.std.specs.Prelude.{Some, option_map}
 use mathlib.Core.Path.{◌≡◌, refl}
 use mathlib.Core.List.{List}
 use Prim.Native.Nat.{ℕ, zero, suc, ◌-◌, ◌<◌, ◌≤◌}
@@ -7,7 +7,7 @@ use native.Mathlib.Omega.{arith}
 use lib.ListN.{length, get_or}
 use lib.Seq.{get_or-set_same, get_or-set_other}
 use borrow.Author.Tests.{lt-ltb, le-ltb}
-use Rattle.stack.specs.Stack.{pushed, pushed_len, popped}
+use Rattle.stack.specs.Stack.{pushed, pushed_len, popped, top}
 
 pub len_room : (s : List ℕ) (len : ℕ) → len < length s → pushed_len s len ≡ suc len
 unfolding pushed_len
@@ -24,14 +24,10 @@ pop_pushed s len w h = rw (len_room s len h, get_or-set_same s len w 0 h)
 pub below_kept : (s : List ℕ) (len w i : ℕ) → i < len → get_or (pushed s len w) i 0 ≡ get_or s i 0
 below_kept s len w i h = get_or-set_other s len i w 0 (λ e. omega arith)
 
--- as the code pops
-pub pop_none : (s : List ℕ) (len : ℕ) → len ≡ 0 → None ≡ popped s len
+-- the word on top is what is popped, and one less is in use
+pub popped_top : (s : List ℕ) (len : ℕ) → popped s len ≡ option_map (λ w. (w, len - 1)) (top s len)
 unfolding popped
-pop_none s len h = rw h
-
-pub pop_some : (s : List ℕ) (len : ℕ) {w : ℕ} → (len ≡ 0 → ⊥) → w ≡ get_or s (len - 1) 0 → Some (w, len - 1) ≡ popped s len
-unfolding popped
-pop_some s zero h e = absurd (h refl)
-pop_some s (suc n) {w} h e =
+popped_top s zero = refl
+popped_top s (suc n) =
     let m : suc n - 1 ≡ n = omega arith in
-    rw (e, m)
+    rw m

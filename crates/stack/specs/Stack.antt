@@ -11,3 +11,8 @@ pushed_len s len = elim (ltb len (length s)) [ true ↦ suc len | false ↦ len 
 unfoldable pub popped : List ℕ → ℕ → Option (ℕ × ℕ)
 popped s zero = None
 popped s (suc n) = Some (get_or s n 0, n)
+
+-- the word on top, which is what is popped
+abbrev pub top : List ℕ → ℕ → Option ℕ
+top s zero = None
+top s (suc n) = Some (get_or s n 0)

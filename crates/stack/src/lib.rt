@@ -1,28 +1,38 @@
 #![tactic(auto)]
 
-// A bounded stack of words in a lent slice, of which the first `len` are in use.
-ghost use Rattle.std.specs.Prelude.{◌≡◌};
-ghost use Rattle.stack.specs.Stack.{pushed, pushed_len, popped};
+// A bounded stack of words: of N words the first `len` are on it, the last of these on top.
+ghost use Rattle.std.specs.Prelude.{◌≡◌, ◌-◌, replicate};
+ghost use Rattle.stack.specs.Stack.{pushed, pushed_len, top};
 
-// How many are in use then. A full stack stays as it is.
-pub fn push(s: &mut [u64], len: u64, w: u64) -> u64
-    ensures { (result ≡ pushed_len s.old len) × (s.new ≡ pushed s.old len w) }
-{
-    let k = len as usize;
-    if k < s.len() {
-        s[k] = w;
-        return len + 1;
-    }
-    len
+#[derive(Drop)]
+pub struct Stack<const N: usize> {
+    words: [u64; N],
+    len: usize,
 }
 
-// The word that was on top, and how many are left.
-pub fn pop(s: &[u64], len: u64) -> Option<(u64, u64)>
-    ensures { result ≡ popped s.now len }
-{
-    if len == 0 {
-        return None;
+impl<const N: usize> Stack<N> {
+    // With so many words on it that are nothing.
+    pub fn blank(len: usize) -> Self
+        ensures { result ≡ record { words = replicate N 0; len = len } }
+    {
+        Stack { words: [0; N], len }
     }
-    let rest = len - 1;
-    Some((primitive::words::at(s, rest), rest))
+
+    // A full stack stays as it is.
+    pub fn push(&mut self, w: u64)
+        ensures { self.new ≡ record { words = pushed self.old.words self.old.len w; len = pushed_len self.old.words self.old.len } }
+    {
+        if self.len < N {
+            self.words[self.len] = w;
+            self.len += 1;
+        }
+    }
+
+    // The word that was on top, if there was one; it is off the stack then.
+    pub fn pop(&mut self) -> Option<u64>
+        ensures { (result ≡ top self.old.words self.old.len) × (self.new ≡ record self.old { len = self.old.len - 1 }) }
+    {
+        self.len = self.len.checked_sub(1)?;
+        Some(primitive::words::at(&self.words, self.len as u64))
+    }
 }

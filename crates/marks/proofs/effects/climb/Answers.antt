@@ -1,33 +1,28 @@
--- `marks::effects::climb` meets its contract. The loop's invariant: what is left of the climb gives the same tables as the whole; the length stays.
--- The measure is the budget. Assumes nothing.
-use mathlib.Core.Path.{refl, sym, ◌∙◌}
+-- `marks::effects::climb` meets its contract. Assumes nothing.
+use Rattle.std.proofs.Common.{◌≡◌, suc, ◌+◌, ◌-◌, sym, ◌∙◌, arith}
+use Rattle.primitive.specs.Words.{node_rows}
 use Rattle.marking.proofs.NotifyLaws.{climb_end, climb_none, climb_stop, climb_more}
 use Rattle.marking.proofs.Tests.{masked_zero}
 use Rattle.marks.proofs.effects.climb.Goals as goal
 
-pub loop-left-init : goal.loop-left-init
-loop-left-init c = (refl, refl)
-
 pub returns-in_default : goal.returns-in_default
 returns-in_default c =
-    sym
-    (c.loop-left.invariant.0
-    ∙ climb_none _ _ _ c.enqueue.ensures c.get.ensures c.open.ensures _ c.loop-left-test.true c.in_default.is)
+    let h : node_rows c.args.nodes.now - c.loop.counter ≡ suc (node_rows c.args.nodes.now - (c.loop.counter + 1)) = omega arith in
+    sym (climb_none _ _ _ h c.enqueue.ensures c.get.ensures c.open.ensures c.in_default.is) ∙ c.loop.invariant
 
 pub returns-then-is_zero : goal.returns-then-is_zero
 returns-then-is_zero c =
-    sym
-    (c.loop-left.invariant.0
-    ∙ climb_stop _ _ _ c.enqueue.ensures c.get.ensures c.open.ensures c.in-At.is c.get-effect.ensures c.flags.ensures _
-    c.loop-left-test.true (masked_zero _ _ c.mask.ensures c.is_zero.ensures c.if-is_zero.true))
+    let h : node_rows c.args.nodes.now - c.loop.counter ≡ suc (node_rows c.args.nodes.now - (c.loop.counter + 1)) = omega arith in
+    sym (climb_stop _ _ _ h c.enqueue.ensures c.get.ensures c.open.ensures c.in-At.is c.get-e.ensures c.flags.ensures (masked_zero _ _ c.mask.ensures c.is_zero.ensures c.if-is_zero.true))
+    ∙ c.loop.invariant
 
-pub loop-left-preserved : goal.loop-left-preserved
-loop-left-preserved c = (
-  c.loop-left.invariant.0
-      ∙ climb_more _ _ _ c.enqueue.ensures c.get.ensures c.open.ensures c.in-At.is c.get-effect.ensures c.flags.ensures _
-      c.loop-left-test.true (masked_zero _ _ c.mask.ensures c.is_zero.ensures c.if-is_zero.false),
-  c.enqueue.auto.nodes ∙ c.loop-left.invariant.1,
-)
+pub loop-preserved : goal.loop-preserved
+loop-preserved c =
+    let h : node_rows c.args.nodes.now - c.loop.counter ≡ suc (node_rows c.args.nodes.now - (c.loop.counter + 1)) = omega arith in
+    sym (climb_more _ _ _ h c.enqueue.ensures c.get.ensures c.open.ensures c.in-At.is c.get-e.ensures c.flags.ensures (masked_zero _ _ c.mask.ensures c.is_zero.ensures c.if-is_zero.false))
+    ∙ c.loop.invariant
 
 pub returns : goal.returns
-returns c = sym (c.loop-left.invariant.0 ∙ climb_end _ _ _ _ c.loop-left-test.false)
+returns c =
+    let h : node_rows c.args.nodes.now - c.loop.counter ≡ 0 = omega arith in
+    sym (climb_end _ _ _ _ h) ∙ c.loop.invariant
