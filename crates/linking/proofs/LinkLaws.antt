@@ -1,10 +1,8 @@
--- What is_newest tests and the four ways of link, as the code finds them; link where no slot is free; what link leaves alone. Assumes nothing.
+-- The four ways of link, as the code finds them; link where no slot is free; what link leaves alone. Assumes nothing.
 use mathlib.Core.Path.{◌≡◌, refl, sym, ap, ◌∙◌}
 use mathlib.Core.Bool.{Bool, true, false}
-use mathlib.Core.List.{List}
 use Prim.Native.Nat.{ℕ}
 use native.Mathlib.Omega.{arith}
-use lib.Dec.{eqb}
 use lib.ListN.{get_or}
 use Rattle.primitive.specs.Slots.{slot_of}
 use Rattle.primitive.specs.declared.slots.Slot.{Slot}
@@ -12,27 +10,10 @@ use Rattle.primitive.specs.declared.slots.Slot.TheVariants.{At, Nothing}
 use Rattle.linking.specs.declared.link.LinkInit.{LinkInit}
 use Rattle.linking.specs.Free.{taken, taken_on}
 use Rattle.linking.specs.Neighbours.{next_dep_of}
-use Rattle.linking.specs.Link.{names, newest, newest_on, written, made, made_on, set_back, set_back_on, joined, inserted, inserted_on, reused, reused_on, init_of, linked}
-use Rattle.primitive.specs.Words.{FREE, LIVE, VERSION, DEP, SUB, PREV-SUB, NEXT-SUB, PREV-DEP, NEXT-DEP, DEPS, DEPS-TAIL, SUBS, SUBS-TAIL, node, link}
+use Rattle.linking.specs.Link.{names, newest, written, made, made_on, set_back, set_back_on, joined, inserted, inserted_on, reused, reused_on, init_of, linked}
+use Rattle.primitive.specs.Words.{FREE, LIVE, VERSION, DEP, SUB, PREV-SUB, NEXT-SUB, PREV-DEP, NEXT-DEP, DEPS, DEPS-TAIL, SUBS, SUBS-TAIL, node}
 use Rattle.linking.specs.Table.{Tab, tab}
 use Rattle.linking.proofs.Untouched.{Untouched, untouched_refl, then, by_node, by_link, by_head, by_beside}
-
--- ---- a slot's version and subscriber, as is_newest tests them
-module _ (l : List ℕ) (sub version : ℕ) {o : Slot} where
-  pub newest_none : o ≡ Nothing → false ≡ newest_on o l sub version
-  newest_none d = sym (ap (λ (x : Slot). newest_on x l sub version) d)
-
-  module _ {s v : ℕ} {b : Bool} (d : o ≡ At s) (e : v ≡ link l s VERSION) (g : b ≡ eqb v version) where
-    at_version : {c : Bool} → b ≡ c → newest_on o l sub version ≡ elim c [ true ↦ eqb (link l s SUB) sub | false ↦ false ]
-    at_version h =
-        ap (λ (x : Slot). newest_on x l sub version) d
-        ∙ ap (λ (x : Bool). elim x [ true ↦ eqb (link l s SUB) sub | false ↦ false ]) (ap (λ (x : ℕ). eqb x version) (sym e) ∙ sym g ∙ h)
-
-    pub newest_same : b ≡ true → {x : ℕ} → x ≡ link l s SUB → eqb x sub ≡ newest_on o l sub version
-    newest_same h f = sym (at_version h ∙ ap (λ (x : ℕ). eqb x sub) (sym f))
-
-    pub newest_other : b ≡ false → false ≡ newest_on o l sub version
-    newest_other h = sym (at_version h)
 
 -- ---- the four ways
 module _ (t : Tab) (dep sub version : ℕ) {p : ℕ} {a : Bool} (tail : p ≡ node t.nodes sub DEPS-TAIL) (named : a ≡ names t.links p dep) where

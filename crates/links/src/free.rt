@@ -20,7 +20,8 @@ pub fn live(links: &[u64]) -> u64
     (0..rows).filter(|n| is_live(links, *n)).count() as u64
 }
 
-// The word of the first free slot, which is live then and off the list; 0 where no slot is free, and nothing changes.
+// The word of the first free slot, which is live then and off the list; 0 where no slot is free, and nothing changes. A word and no Slot: the tables keep it as it is,
+// and to make it again from a slot is a sum that could wrap.
 pub fn take(links: &mut [u64]) -> u64
     ensures { fresh result links.new ≡ taken links.old }
 {

@@ -39,7 +39,7 @@ fn is_newest(nodes: &[u64], links: &[u64], dep: u64, sub: u64, version: Version)
     used == version && words::get(links, LINK, s, SUB) == sub
 }
 
-// A slot with these words, and its word; 0 where none is free.
+// A slot with these words, and its word; 0 where none is free, as `free::take` answers.
 fn new_link(links: &mut [u64], init: LinkInit) -> u64
     ensures { fresh result links.new ≡ made links.old init }
 {
@@ -109,10 +109,10 @@ pub fn link(nodes: &mut [u64], links: &mut [u64], dep: u64, sub: u64, version: V
     }
     let init = LinkInit {
         version: version.cycle,
-        dep: dep,
-        sub: sub,
-        prev_dep: prev_dep,
-        next_dep: next_dep,
+        dep,
+        sub,
+        prev_dep,
+        next_dep,
         prev_sub: words::get(nodes, NODE, dep, SUBS_TAIL),
     };
     insert(nodes, links, init);

@@ -3,8 +3,7 @@ use Rattle.std.specs.Prelude.{Option, Some, None}
 use mathlib.Core.Path.{◌≡◌, refl, sym, ap, subst, ◌∙◌}
 use mathlib.Core.Bool.{true, false}
 use mathlib.Core.List.{List}
-use Prim.Native.Nat.{ℕ, zero, suc, ◌-◌, ◌<◌, ◌≤◌}
-use native.Mathlib.Numerals.{sub-one}
+use Prim.Native.Nat.{ℕ, zero, suc, ◌-◌}
 use native.Mathlib.Omega.{arith}
 use lib.ListN.{get_or, set, replicate}
 use lib.Seq.{set-get_or}
@@ -87,11 +86,6 @@ module _ (p : Rest) (L N : List ℕ) where
         let a : w ≡ get_or A n 0 = cc in
         let b : suc n - 1 ≡ n = omega arith in
         rw (← a, ← u, g, back, b)
-
--- a pop leaves fewer
-pub pop_less : (A : List ℕ) (len : ℕ) {t : Option ℕ} {w : ℕ} → t ≡ top A len → t ≡ Some w → len - 1 < len
-pop_less A zero e d = let z : ◌≡◌ {A = ℕ} 0 1 = cc in absurd (omega arith)
-pop_less A (suc n) e d = omega arith
 
 -- ---- a stack of nothing: one more on it changes no word, and from it no way goes back
 clear : (k x : ℕ) → ◌≡◌ {A = ℕ} (get_or {A = ℕ} (replicate k 0) x 0) 0

@@ -44,27 +44,22 @@ fn visit(nodes: &mut [u64], links: &[u64], s: u64, sub: u64) -> Flags
     let flags = flags(nodes, sub);
     if flags.mask(MARKED).is_zero() {
         set_flags(nodes, sub, flags.join(Flags::PENDING));
-        return flags;
-    }
-    if flags.mask(BUSY).is_zero() {
-        return Flags::NONE;
-    }
-    if flags.mask(Flags::RECURSED_CHECK).is_zero() {
+        flags
+    } else if flags.mask(BUSY).is_zero() {
+        Flags::NONE
+    } else if flags.mask(Flags::RECURSED_CHECK).is_zero() {
         set_flags(
             nodes,
             sub,
             flags.clear(Flags::RECURSED).join(Flags::PENDING),
         );
-        return flags;
+        flags
+    } else if flags.mask(CHANGED).is_zero() && is_valid_link(nodes, links, s, sub) {
+        set_flags(nodes, sub, flags.join(Flags::RECURSED.join(Flags::PENDING)));
+        flags.mask(Flags::MUTABLE)
+    } else {
+        Flags::NONE
     }
-    if flags.mask(CHANGED).is_zero() {
-        if is_valid_link(nodes, links, s, sub) {
-            set_flags(nodes, sub, flags.join(Flags::RECURSED.join(Flags::PENDING)));
-            return flags.mask(Flags::MUTABLE);
-        }
-        return Flags::NONE;
-    }
-    Flags::NONE
 }
 
 // Visits the subscriber, and notifies it where the flags that are left have WATCHING.
@@ -75,7 +70,6 @@ fn reach(nodes: &mut [u64], links: &[u64], s: u64, sub: u64) -> Flags
     let flags = visit(nodes, links, s, sub);
     if flags.mask(Flags::WATCHING).is_nonzero() {
         notify(nodes, links, sub);
-        return flags;
     }
     flags
 }
@@ -85,9 +79,10 @@ fn below(nodes: &[u64], sub: u64, flags: Flags) -> Slot
     ensures { result ≡ below nodes.now sub flags.bits }
 {
     if flags.mask(Flags::MUTABLE).is_nonzero() {
-        return slots::open(words::get(nodes, NODE, sub, SUBS));
+        slots::open(words::get(nodes, NODE, sub, SUBS))
+    } else {
+        Slot::Nothing
     }
-    Slot::Nothing
 }
 
 // The walk from a slot on, once a word is left aside on the way down: it lies on so many words that are nothing.
@@ -183,9 +178,7 @@ fn dirty(nodes: &mut [u64], links: &[u64], sub: u64)
         set_flags(nodes, sub, flags.join(Flags::DIRTY));
         if flags.mask(Flags::WATCHING.join(Flags::RECURSED_CHECK)) == Flags::WATCHING {
             notify(nodes, links, sub);
-            return;
         }
-        return;
     }
 }
 

@@ -1,5 +1,5 @@
 -- `marks::effects::climb` meets its contract. The loop's invariant: what is left of the climb gives the same tables as the whole. Assumes nothing.
-use Rattle.std.proofs.Common.{◌≡◌, ◌-◌, ◌/◌, length}
+use Rattle.std.proofs.Common.{◌≡◌, ◌-◌}
 use Rattle.primitive.specs.Words.{node_rows}
 use Rattle.marking.specs.Notify.{climbed}
 use Rattle.marks.proofs.effects.climb.Given as goal

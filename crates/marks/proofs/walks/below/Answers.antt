@@ -10,6 +10,6 @@ returns-then-is_nonzero c =
     c.get.ensures
     c.open.ensures
 
-pub returns : goal.returns
-returns c =
+pub returns-else-is_nonzero : goal.returns-else-is_nonzero
+returns-else-is_nonzero c =
     below_shut _ _ _ (masked_nonzero _ _ c.mask.ensures c.is_nonzero.ensures c.if-is_nonzero.false)

@@ -12,14 +12,14 @@ returns-then-eq-2 c =
     (masked_same _ _ (rw c.join-then-eq.ensures at c.mask-then-eq.ensures) _ c.eq-then-eq.ensures c.if-eq-2.true)
     c.notify.ensures
 
-pub returns-then-eq : goal.returns-then-eq
-returns-then-eq c =
+pub returns-else-eq-2 : goal.returns-else-eq-2
+returns-else-eq-2 c =
     dirty_rests _ _ _ c.flags-flags.ensures
     (masked_same _ _ c.mask.ensures _ c.eq.ensures c.if-eq.true)
     c.join.ensures
     c.set_flags.ensures
     (masked_same _ _ (rw c.join-then-eq.ensures at c.mask-then-eq.ensures) _ c.eq-then-eq.ensures c.if-eq-2.false)
 
-pub returns : goal.returns
-returns c =
+pub returns-else-eq : goal.returns-else-eq
+returns-else-eq c =
     dirty_not _ _ _ c.flags-flags.ensures (masked_same _ _ c.mask.ensures _ c.eq.ensures c.if-eq.false)

@@ -1,5 +1,5 @@
 -- `marks::walks::propagate_on` meets its contract. Assumes nothing.
-use Rattle.std.proofs.Common.{◌≡◌, ℕ, suc, ◌+◌, ◌-◌, sym, ap, ◌∙◌, arith}
+use Rattle.std.proofs.Common.{◌≡◌, suc, ◌+◌, ◌-◌, sym, ap, ◌∙◌, arith}
 use Rattle.marking.specs.Walks.{place, walked}
 use Rattle.marking.proofs.WalkLaws.{down_push, down_flat, walk_end, turn_down, turn_flat, along_slot, along_none, back_end, back_slot, back_none}
 use Rattle.marks.proofs.walks.propagate_on.Goals as goal

@@ -14,8 +14,8 @@ returns-then-is_nonzero c =
           (masked_nonzero _ _ c.mask.ensures c.is_nonzero.ensures c.if-is_nonzero.true));
     }
 
-pub returns : goal.returns
-returns c =
+pub returns-else-is_nonzero : goal.returns-else-is_nonzero
+returns-else-is_nonzero c =
     record {
       bits_value = c.visit-flags.ensures.bits_value;
       nodes_after = sym
