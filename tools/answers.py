@@ -251,7 +251,8 @@ def theorem(crate, module, of, name):
     where = path(crate, module, of, name)
     kinds, reads = uses.get(where + '.Kinds'), uses.get(where + '.Reads')
     names = tuple(map(re.escape, (alias(module, of, name), kinds or '', kinds or '', reads or '')))
-    stated = r'^pub one_%s(?:_lem)? :\s+(?:OneAnswer\s+%s\.ps\s+%s\.r\s+%s\.Learnt|\(.*\) → OneAnswer \(%s\.ps [\w ]+\) \(%s\.r [\w ]+\) \(%s\.Learnt [\w ]+\))$' % (names + names[1:])
+    typed = '(?:%s_)?' % '_'.join(t.lower() for t in of)  # where a free function has the method's name
+    stated = r'^pub one_' + typed + r'%s(?:_lem)? :\s+(?:OneAnswer\s+%s\.ps\s+%s\.r\s+%s\.Learnt|\(.*\) → OneAnswer \(%s\.ps [\w ]+\) \(%s\.r [\w ]+\) \(%s\.Learnt [\w ]+\))$' % (names + names[1:])
     return bool(kinds and reads and re.search(stated, text, re.M))
 
 

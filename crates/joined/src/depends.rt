@@ -54,7 +54,7 @@ fn may_depend(nodes: &[u64], n: u64, d: u64) -> bool
 
 // Whether each link of the dependency list from the word w on goes to a node that passes the test.
 // No `primitive::walk::Walk`: it goes over as many slots as the table has rows, and the definitions of resting over one less, the header's.
-pub fn every_link<F: Fn(u64) -> bool>(links: &[u64], w: u64, test: F) -> bool
+pub(crate) fn every_link<F: Fn(u64) -> bool>(links: &[u64], w: u64, test: F) -> bool
     requires { F.IsAlwaysCallable test }
     ensures { (p : ℕ → Bool) → ((d : ℕ) (r : Bool) → F.post test d r → r ≡ p d)
         → result ≡ along (λ x. link links.now x NEXT-DEP) (λ x. p (link links.now x DEP)) (slot_room links.now) w }

@@ -92,7 +92,7 @@ fn propagate_on(
     mut link: u64,
     mut next: u64,
     aside: u64,
-    deep: usize,
+    deep: u64,
     turns: usize,
 )
     ensures { nodes.new ≡ walked links.now turns nodes.old (place link next (pushed blank deep aside) (pushed_len blank deep)) }
@@ -129,7 +129,7 @@ fn propagate_on(
 }
 
 // How high a stack of nothing is with one more on it.
-fn one_higher(len: usize) -> usize
+fn one_higher(len: u64) -> u64
     ensures { result ≡ pushed_len blank len }
 {
     if len < 1024 { len + 1 } else { len }

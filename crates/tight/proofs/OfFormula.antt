@@ -11,6 +11,10 @@ use Rattle.formula.proofs.cells.name.Kinds as cells-name-kinds
 use Rattle.formula.proofs.cells.name.Reads as cells-name
 use Rattle.formula.proofs.cells.cell_at.Kinds as cells-cell-at-kinds
 use Rattle.formula.proofs.cells.cell_at.Reads as cells-cell-at
+use Rattle.formula.proofs.cells.cell_count.Kinds as cells_cell_count_kinds
+use Rattle.formula.proofs.cells.cell_count.Reads as cells_cell_count
+use Rattle.formula.proofs.cells.name_at.Kinds as cells_name_at_kinds
+use Rattle.formula.proofs.cells.name_at.Reads as cells_name_at
 use Rattle.formula.proofs.cells.end.Kinds as cells-end-kinds
 use Rattle.formula.proofs.cells.end.Reads as cells-end
 use Rattle.formula.proofs.legal.readable.Kinds as legal-readable-kinds
@@ -36,6 +40,12 @@ one_cells_name κs a x y v w p q = (p ∙ sym q, refl)
 
 pub one_cells_cell_at : OneAnswer cells-cell-at-kinds.ps cells-cell-at-kinds.r cells-cell-at.Learnt
 one_cells_cell_at κs a x y v w p q = (p ∙ sym q, refl)
+
+pub one_cells_cell_count : OneAnswer cells_cell_count_kinds.ps cells_cell_count_kinds.r cells_cell_count.Learnt
+one_cells_cell_count κs a x y v w p q = (p ∙ sym q, refl)
+
+pub one_cells_name_at : OneAnswer cells_name_at_kinds.ps cells_name_at_kinds.r cells_name_at.Learnt
+one_cells_name_at κs a x y v w p q = (p ∙ sym q, refl)
 
 pub one_cells_end : OneAnswer cells-end-kinds.ps cells-end-kinds.r cells-end.Learnt
 one_cells_end κs a x y v w p q = (p ∙ sym q, refl)
