@@ -55,6 +55,7 @@ fn describe(nodes: &mut [u64], n: u64, sort: Sort, formula: &[i64])
 }
 
 // Both values of node n.
+#[tactic(auto, unfolding(operating::specs::Making::valued))]
 fn give(values: &mut [i64], n: u64, v: Value)
     ensures { values.new ≡ valued values.old n v }
 {
@@ -72,6 +73,7 @@ fn set_word(cells: &mut [i64], at: usize, i: usize, w: i64)
 }
 
 // The formula's words from word `at` on.
+#[tactic(auto, unfolding(operating::specs::Making::laid))]
 fn lay(cells: &mut [i64], at: usize, formula: &[i64])
     ensures { cells.new ≡ laid cells.old at formula.now }
 {
@@ -106,6 +108,7 @@ fn make(
 }
 
 // The owner depends on node n.
+#[tactic(auto, unfolding(operating::specs::Making::owned))]
 fn own(nodes: &mut [u64], links: &mut [u64], n: u64, owner: u64)
     ensures { (v : List ℤ) → state nodes.new links.new v ≡ owned (state nodes.old links.old v) n owner }
 {

@@ -16,6 +16,7 @@ pub fn depth(nodes: &[u64]) -> u64
 }
 
 // One batch more, up to the greatest depth.
+#[tactic(auto, unfolding(operating::specs::Batches::started))]
 pub fn start_batch(nodes: &mut [u64])
     ensures { nodes.new ≡ started nodes.old }
 {

@@ -7,6 +7,7 @@ use values::Value;
 // A node's number is far below it.
 const HALF: u64 = 1 << 63;
 
+#[tactic(auto, unfolding(operating::specs::Log::number_word))]
 pub fn number_word(n: u64) -> i64
     ensures { result ≡ number_word n }
 {
@@ -14,6 +15,7 @@ pub fn number_word(n: u64) -> i64
 }
 
 // One row at the front, where the log has room for one. The answer is how many rows were written.
+#[tactic(auto, unfolding(operating::specs::Log::rows_in, operating::specs::Log::rowed))]
 pub fn write_row(log: &mut [i64], e: u64, v: Value) -> u64
     ensures value { result ≡ rows_in log.old }
     ensures log_after { log.new ≡ rowed log.old e v }

@@ -15,6 +15,7 @@ use reads::read::{check_dirty, evaluate};
 use values::Value;
 
 // A rerun is in a new cycle, and no dependency is reached yet.
+#[tactic(auto, unfolding(operating::specs::Runs::begun_run))]
 fn begin(nodes: &mut [u64], links: &mut [u64], e: u64)
     ensures { (v : List ℤ) → state nodes.new links.new v ≡ begun_run (state nodes.old links.old v) e }
 {
@@ -24,6 +25,7 @@ fn begin(nodes: &mut [u64], links: &mut [u64], e: u64)
 }
 
 // The run of e is over; it watches.
+#[tactic(auto, unfolding(operating::specs::Runs::ended_run))]
 pub fn end_run(nodes: &mut [u64], e: u64)
     ensures { nodes.new ≡ ended_run nodes.old e }
 {
@@ -31,6 +33,7 @@ pub fn end_run(nodes: &mut [u64], e: u64)
 }
 
 // What was not reached in this run goes: links to what it read before, and everything that it owned.
+#[tactic(auto, unfolding(operating::specs::Runs::finished_run))]
 fn finish(nodes: &mut [u64], links: &mut [u64], e: u64)
     ensures { (v : List ℤ) → state nodes.new links.new v ≡ finished_run (state nodes.old links.old v) e }
 {
@@ -39,6 +42,7 @@ fn finish(nodes: &mut [u64], links: &mut [u64], e: u64)
 }
 
 // One more run of e, and the value of its formula.
+#[tactic(auto, unfolding(operating::specs::Runs::reran))]
 fn rerun(nodes: &mut [u64], links: &mut [u64], values: &mut [i64], cells: &[i64], e: u64) -> Value
     ensures { got result (state nodes.new links.new values.new) ≡ reran cells.now (state nodes.old links.old values.old) e }
 {
