@@ -1,1 +1,1 @@
-mod StepLaws
+pub mod StepLaws

@@ -1,6 +1,7 @@
 #![tactic(auto)]
 
 // Reads pairs of lines from standard input and answers each on standard output as soon as it is there.
+ghost use Rattle.std.specs.Prelude.{◌≡◌};
 ghost use Rattle.script.specs.Turns.{tables};
 ghost use Rattle.simmer.specs.Steps.{Stepped, lent};
 
@@ -9,21 +10,11 @@ use script::turn;
 use script::turns::Turn;
 use std::io;
 use std::io::Read;
-use stream::{Window, after, fill, send};
+use stream::{Source, send};
 
-// Where the window stands, and whether the run goes on.
-#[derive(Clone, Copy)]
-struct State {
-    at: usize,
-    end: usize,
-    over: bool,
-    on: bool,
-}
-
-// One pair, or one more read.
+// One pair, or one more read; whether the run goes on.
 fn step<R: Read>(
     rt: &(impl Print + Eprint),
-    from: &mut R,
     nodes: &mut [u64],
     links: &mut [u64],
     values: &mut [i64],
@@ -31,27 +22,14 @@ fn step<R: Read>(
     log: &mut [i64],
     words: &mut [i64],
     out: &mut [u8],
-    buf: &mut [u8],
-    state: State,
-) -> State
-    ensures { Stepped (lent (tables nodes.old links.old values.old cells.old log.old) words.old out.old buf.old state.at state.end state.over) (lent (tables nodes.new links.new values.new cells.new log.new) words.new out.new buf.new result.at result.end result.over) result.on }
+    input: &mut Source<R>,
+) -> bool
+    ensures same { input.new.buf.ghost_name ≡ input.old.buf.ghost_name }
+    ensures stepped { Stepped (lent (tables nodes.old links.old values.old cells.old log.old) words.old out.old input.old.buf.now input.old.at input.old.end input.old.over) (lent (tables nodes.new links.new values.new cells.new log.new) words.new out.new input.new.buf.now input.new.at input.new.end input.new.over) result }
 {
-    let at = state.at;
-    let end = state.end;
-    let over = state.over;
-    let stop = State {
-        at: at,
-        end: end,
-        over: over,
-        on: false,
-    };
-    if buf.len() < end {
-        return stop;
+    if input.buf.len() < input.end || input.end < input.at {
+        return false;
     }
-    if end < at {
-        return stop;
-    }
-    let mut to = io::writer(rt);
     let what = turn(
         nodes,
         links,
@@ -60,44 +38,27 @@ fn step<R: Read>(
         log,
         words,
         out,
-        &buf[at..end],
-        over,
+        input.unread(),
+        input.over,
     );
     match what {
         Turn::More => {
-            let more = fill(
-                rt,
-                from,
-                buf,
-                Window {
-                    at: at,
-                    end: end,
-                    over: over,
-                },
-            );
-            State {
-                at: more.at,
-                end: more.end,
-                over: more.over,
-                on: true,
-            }
+            input.fill(rt);
+            true
         }
-        Turn::Answered { used, bytes } => State {
-            at: after(at, used, end),
-            end: end,
-            over: over,
-            on: send(rt, &mut to, out, bytes),
-        },
+        Turn::Answered { used, bytes } => {
+            input.advance(used);
+            send(rt, &mut io::writer(rt), out, bytes)
+        }
         Turn::Ended(bytes) => {
-            send(rt, &mut to, out, bytes);
-            stop
+            send(rt, &mut io::writer(rt), out, bytes);
+            false
         }
     }
 }
 
-// 256 nodes, 1,024 links, 2,048 cells and 256 log rows; nothing says that the input ends, so the turns are counted down.
+// 256 nodes, 1,024 links, 2,048 cells and 256 log rows; nothing says that the input ends, so the turns are counted.
 fn main(rt: HostRuntime) {
-    let mut from = rt.reader();
     let mut nodes = [0u64; 4112];
     let mut links = [0u64; 8200];
     let mut values = [0i64; 1024];
@@ -107,17 +68,10 @@ fn main(rt: HostRuntime) {
     let mut out = [0u8; 32768];
     let mut buf = [0u8; 16384];
     empty(&mut nodes, &mut links, &mut values, &mut cells);
-    let mut state = State {
-        at: 0,
-        end: 0,
-        over: false,
-        on: true,
-    };
-    let mut turns = u64::MAX;
-    while turns > 0 {
-        state = step(
+    let mut input = Source::new(rt.reader(), &mut buf);
+    for _ in 0..u64::MAX {
+        if !step(
             &rt,
-            &mut from,
             &mut nodes,
             &mut links,
             &mut values,
@@ -125,12 +79,9 @@ fn main(rt: HostRuntime) {
             &mut log,
             &mut words,
             &mut out,
-            &mut buf,
-            state,
-        );
-        if !state.on {
+            &mut input,
+        ) {
             return;
         }
-        turns -= 1;
     }
 }

@@ -1,5 +1,5 @@
 -- A window on the input: a buffer, of which the bytes from `at` up to `end` are read and not yet used. Assumes nothing.
-use Rattle.std.specs.Prelude.{ℕ, ◌+◌, ◌≤◌, ◌<◌, ◌≡◌, Bool, true, List, length, get_or, take}
+use Rattle.std.specs.Prelude.{ℕ, ◌+◌, ◌≤◌, ◌<◌, ◌≡◌, Bool, true, List, Option, Some, length, get_or, take}
 use Rattle.std.proofs.Math.Seq.{slice}
 
 -- What is unread, as far as the buffer goes.
@@ -26,8 +26,8 @@ pub record Spilled (long at at' : ℕ) : Type 0 where
   pub spilled : long < at + 256 → at' ≡ 0
 
 -- Where a byte is unread it is the next, and nothing else changes.
-pub record Taken (before : List ℕ) (at end byte at' end' : ℕ) (after : List ℕ) : Type 0 where
-  pub first : at < end → at < length before → byte ≡ get_or before at 0
+pub record Taken (before : List ℕ) (at end : ℕ) (byte : Option ℕ) (at' end' : ℕ) (after : List ℕ) : Type 0 where
+  pub first : at < end → at < length before → byte ≡ Some (get_or before at 0)
   pub past : at < end → at < length before → at' ≡ at + 1
   pub rest : at < end → at < length before → end' ≡ end
   pub same : at < end → at < length before → after ≡ before

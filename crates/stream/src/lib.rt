@@ -1,53 +1,104 @@
 #![tactic(auto)]
 
-// Readers and writers: a window on what was read and not yet used, and all of what is to be written. What the system reads or writes, no contract
-// can say.
-ghost use Rattle.std.specs.Prelude.{length, ◌+◌, ◌^◌, ◌<◌, ◌≤◌, min, max, false, ◌≡◌};
-ghost use Rattle.stream.specs.Windows.{Front, Filled, Spilled, Taken};
+// Readers and writers: what was read and not yet used, and all of what is to be written. What the system reads or writes, no contract can say.
+ghost use Rattle.std.specs.Prelude.{length, ◌+◌, ◌++◌, ◌^◌, ◌<◌, ◌≤◌, min, max, true, false, ◌≡◌, take, IfSome};
+ghost use Rattle.stream.specs.Windows.{Front, Filled, Spilled, Taken, unread};
 
 use std::env::{Env, FillError};
 use std::fmt::InlineText;
-use std::io;
 use std::io::{Read, Write};
+use std::{fmt, io};
 
-// The unread bytes of a buffer go from `at` up to `end`. `over`: no more will come.
-#[derive(Clone, Copy)]
-pub struct Window {
+// A reader, and the buffer that it is read into: the unread bytes go from `at` up to `end`. `over`: no more will come.
+#[derive(Drop)]
+pub struct Source<'a, R> {
+    pub from: R,
+    pub buf: &'a mut [u8],
     pub at: usize,
     pub end: usize,
     pub over: bool,
 }
 
-// The next byte, or 256 at the end of the input.
-#[derive(Clone, Copy)]
-pub struct Got {
-    pub byte: u64,
-    pub window: Window,
-}
-
-// The lesser of two numbers.
-pub fn least(a: usize, b: usize) -> usize
-    ensures { result ≡ min a b }
-{
-    if b < a { b } else { a }
-}
-
-// Moves what is unread to the front, and says how many bytes that is.
-fn shift(buf: &mut [u8], at: usize, end: usize) -> usize
-    ensures { Front buf.old at end result buf.new }
-{
-    let stop = least(end, buf.len());
-    if stop <= at {
-        return 0;
+impl<'a, R: Read> Source<'a, R> {
+    // Nothing is read yet.
+    pub fn new(from: R, buf: &'a mut [u8]) -> Source<'a, R>
+        ensures { result ≡ record { from = from; buf = buf.entry; at = 0; end = 0; over = false } }
+    {
+        Source {
+            from,
+            buf,
+            at: 0,
+            end: 0,
+            over: false,
+        }
     }
-    let mut from = at;
-    let mut to = 0;
-    while from < stop {
-        buf[to] = buf[from];
-        to += 1;
-        from += 1;
+
+    // What is unread, as far as the buffer goes.
+    #[tactic(auto, using(crate::proofs::Fronts::part_of))]
+    pub fn unread(&self) -> &[u8]
+        ensures { result.now ≡ unread self.now.buf.now self.now.at self.now.end }
+    {
+        let end = self.end.min(self.buf.len());
+        let at = self.at.min(end);
+        &self.buf[at..end]
     }
-    to
+
+    // `used` bytes more are used, but no more than there are.
+    pub fn advance(&mut self, used: usize)
+        ensures { self.new ≡ record self.old { at = min (self.old.at + used) (max self.old.at self.old.end) } }
+    {
+        if self.at < self.end {
+            self.at += used.min(self.end - self.at);
+        }
+    }
+
+    // Moves what is unread to the front, and says how many bytes that is.
+    fn shift(&mut self) -> usize
+        ensures same { self.new.buf.ghost_name ≡ self.old.buf.ghost_name }
+        ensures front { Front self.old.buf.now self.old.at self.old.end result self.new.buf.now }
+    {
+        let end = self.end.min(self.buf.len());
+        let at = self.at.min(end);
+        self.buf.copy_within(at..end, 0);
+        end - at
+    }
+
+    // Moves what is unread to the front and reads once more behind it. An error is told on standard error, and the input is over
+    // then, as at its end and where there is no room.
+    pub fn fill(&mut self, rt: &impl Eprint)
+        ensures same { self.new.buf.ghost_name ≡ self.old.buf.ghost_name }
+        ensures filled { Filled self.old.buf.now self.old.at self.old.end self.new.at self.new.end self.new.over self.new.buf.now }
+    {
+        let n = self.shift();
+        self.at = 0;
+        self.end = n;
+        self.over = true;
+        let buf = &mut *self.buf;
+        if n < buf.len() {
+            match self.from.read(&mut buf[n..]) {
+                Ok(k) => {
+                    self.end = n + k;
+                    self.over = k == 0;
+                }
+                Err(e) => {
+                    fail(rt, "read", e);
+                }
+            }
+        }
+    }
+
+    // The next byte: the first that is unread, or one more read.
+    pub fn next(&mut self, rt: &impl Eprint) -> Option<u8>
+        ensures same { self.new.buf.ghost_name ≡ self.old.buf.ghost_name }
+        ensures taken { Taken self.old.buf.now self.old.at self.old.end result self.new.at self.new.end self.new.buf.now }
+    {
+        if self.unread().is_empty() && !self.over {
+            self.fill(rt);
+        }
+        let byte = *self.unread().first()?;
+        self.at += 1;
+        Some(byte)
+    }
 }
 
 // The text of a system's error, without the number that std writes behind it.
@@ -69,38 +120,6 @@ pub fn fail(rt: &impl Eprint, what: &str, error: io::Error) -> bool
     false
 }
 
-// Moves what is unread to the front and reads once more behind it. An error is told on standard error, and the input is over
-// then, as at its end and where there is no room.
-pub fn fill<R: Read>(rt: &impl Eprint, from: &mut R, buf: &mut [u8], window: Window) -> Window
-    ensures { Filled buf.old window.at window.end result.at result.end result.over buf.new }
-{
-    let at = window.at;
-    let end = window.end;
-    let n = shift(buf, at, end);
-    if buf.len() <= n {
-        return Window {
-            at: 0,
-            end: n,
-            over: true,
-        };
-    }
-    match from.read(&mut buf[n..]) {
-        Ok(k) => Window {
-            at: 0,
-            end: n + k,
-            over: k == 0,
-        },
-        Err(e) => {
-            fail(rt, "read", e);
-            Window {
-                at: 0,
-                end: n,
-                over: true,
-            }
-        }
-    }
-}
-
 // Writes the first n bytes. An error is told on standard error; the answer is no then, and where there are not so many bytes.
 pub fn send<W: Write>(rt: &impl Eprint, to: &mut W, out: &[u8], n: usize) -> bool
     ensures { length out.now < n → result ≡ false }
@@ -108,184 +127,119 @@ pub fn send<W: Write>(rt: &impl Eprint, to: &mut W, out: &[u8], n: usize) -> boo
     if out.len() < n {
         return false;
     }
-    match to.write_all(&out[0..n]) {
+    match to.write_all(&out[..n]) {
         Ok(()) => true,
-        Err(e) => {
-            fail(rt, "write", e);
-            false
-        }
+        Err(e) => fail(rt, "write", e),
     }
 }
 
-// How much of a buffer is filled, and whether all that left it was written.
-#[derive(Clone, Copy)]
-pub struct Sink {
+// A writer, and the buffer that is filled up to `at` before it is written. `ok`: all that left it was written. A failed write is told, and what
+// comes behind it is written nevertheless, so this is kept and no error handed on.
+#[derive(Drop)]
+pub struct Sink<'a, W> {
+    pub to: W,
+    pub out: &'a mut [u8],
     pub at: usize,
     pub ok: bool,
 }
 
-fn emptied<W: Write>(rt: &impl Eprint, to: &mut W, out: &[u8], sink: Sink) -> Sink
-    ensures { result.at ≡ 0 }
-{
-    let ok = sink.ok;
-    let sent = send(rt, to, out, sink.at);
-    if ok {
-        return Sink { at: 0, ok: sent };
-    }
-    Sink { at: 0, ok: false }
-}
-
-// Writes what is there unless room for 256 bytes is left.
-pub fn spill<W: Write>(rt: &impl Eprint, to: &mut W, out: &[u8], sink: Sink) -> Sink
-    ensures { Spilled (length out.now) sink.at result.at }
-{
-    if out.len() < 256 {
-        return emptied(rt, to, out, sink);
-    }
-    if sink.at <= out.len() - 256 {
-        return sink;
-    }
-    emptied(rt, to, out, sink)
-}
-
-fn wide(b: u8) -> u64
-    ensures { result ≡ b }
-{
-    b as u64
-}
-
-// Nothing is unread, so more is read.
-fn read_on<R: Read>(rt: &impl Eprint, from: &mut R, buf: &mut [u8], window: Window) -> Got {
-    if window.over {
-        return Got {
-            byte: 256,
-            window: window,
-        };
-    }
-    let more = fill(rt, from, buf, window);
-    let end = more.end;
-    let over = more.over;
-    if end == 0 {
-        return Got {
-            byte: 256,
-            window: more,
-        };
-    }
-    if buf.len() == 0 {
-        return Got {
-            byte: 256,
-            window: more,
-        };
-    }
-    Got {
-        byte: wide(buf[0]),
-        window: Window {
-            at: 1,
-            end: end,
-            over: over,
-        },
-    }
-}
-
-// The next byte through a window: the first that is unread, or one more read.
-pub fn next<R: Read>(rt: &impl Eprint, from: &mut R, buf: &mut [u8], window: Window) -> Got
-    ensures { Taken buf.old window.at window.end result.byte result.window.at result.window.end buf.new }
-{
-    let at = window.at;
-    let end = window.end;
-    let over = window.over;
-    if end <= at {
-        return read_on(rt, from, buf, window);
-    }
-    if buf.len() <= at {
-        return read_on(rt, from, buf, window);
-    }
-    Got {
-        byte: wide(buf[at]),
-        window: Window {
-            at: at + 1,
-            end: end,
-            over: over,
-        },
-    }
-}
-
-// The place behind `used` bytes from `at` on, but no later than `end`.
-pub fn after(at: usize, used: usize, end: usize) -> usize
-    ensures { result ≡ min (at + used) (max at end) }
-{
-    if end <= at {
-        return at;
-    }
-    if used < end - at {
-        return at + used;
-    }
-    end
-}
-
-// What is no number below 10,000.
-const NONE: u64 = 10000;
-
-fn spelled(text: &[u8]) -> u64
-    ensures { result ≤ 10000 }
-{
-    if text.len() == 0 {
-        return NONE;
-    }
-    let mut i = 0;
-    let mut k: u64 = 0;
-    while i < text.len() {
-        let d = wide(text[i]);
-        if d < 48 {
-            return NONE;
+impl<'a, W: Write> Sink<'a, W> {
+    pub fn new(to: W, out: &'a mut [u8]) -> Sink<'a, W>
+        ensures { result ≡ record { to = to; out = out.entry; at = 0; ok = true } }
+    {
+        Sink {
+            to,
+            out,
+            at: 0,
+            ok: true,
         }
-        if d > 57 {
-            return NONE;
-        }
-        if k > 999 {
-            return NONE;
-        }
-        k = k * 10 + (d - 48);
-        i += 1;
     }
-    k
+
+    // Writes all that is there.
+    pub fn flush(&mut self, rt: &impl Eprint)
+        ensures same { self.new.out.ghost_name ≡ self.old.out.ghost_name }
+        ensures out { self.new.out.now ≡ self.old.out.now }
+        ensures at { self.new.at ≡ 0 }
+    {
+        let at = self.at;
+        let out = &mut *self.out;
+        let sent = send(rt, &mut self.to, out, at);
+        self.ok = self.ok && sent;
+        self.at = 0;
+    }
+
+    // Writes what is there unless room for 256 bytes is left.
+    pub fn spill(&mut self, rt: &impl Eprint)
+        ensures same { self.new.out.ghost_name ≡ self.old.out.ghost_name }
+        ensures out { self.new.out.now ≡ self.old.out.now }
+        ensures spilled { Spilled (length self.old.out.now) self.old.at self.new.at }
+    {
+        if self.out.len().saturating_sub(256) < self.at || self.out.len() < 256 {
+            self.flush(rt);
+        }
+    }
 }
 
-// The number that argument i of the program spells, or 10,000 where it spells none below it.
-pub fn number_argument(rt: &impl Env, i: usize) -> u64
-    ensures { result ≤ 10000 }
+// Puts text into the buffer, where there is room for all of it.
+impl<W: Write> fmt::Write for Sink<'_, W> {
+    ghost write_str_gives = { λ s bs t. (t.out.ghost_name ≡ s.out.ghost_name) × (t.ok ≡ s.ok) × (t.at ≡ s.at + length bs) × (take t.at t.out.now ≡ take s.at s.out.now ++ bs) };
+
+    fn write_str(&mut self, s: &str) -> fmt::Result {
+        let text = s.as_bytes();
+        let at = self.at;
+        let out = &mut *self.out;
+        if out.len() < at || out.len() - at < text.len() {
+            return Err(fmt::Error);
+        }
+        let end = at + text.len();
+        out[at..end].copy_from_slice(text);
+        self.at = end;
+        Ok(())
+    }
+}
+
+// The number below 10,000 that digits spell.
+fn spelled(text: &[u8]) -> Option<u64>
+    ensures { IfSome result (λ k. k < 10000) }
+{
+    if text.is_empty() {
+        return None;
+    }
+    let mut k = 0;
+    for b in text {
+        match b {
+            b'0'..=b'9' if k < 1000 => k = k * 10 + u64::from(*b - b'0'),
+            _ => return None,
+        }
+    }
+    Some(k)
+}
+
+// The number below 10,000 that argument i of the program spells.
+pub fn number_argument(rt: &impl Env, i: usize) -> Option<u64>
+    ensures { IfSome result (λ k. k < 10000) }
 {
     let mut text = [0u8; 16];
-    match rt.arg(i, &mut text) {
-        Ok(n) => spelled(&text[..n]),
-        Err(_) => NONE,
-    }
+    let n = rt.arg(i, &mut text).ok()?;
+    spelled(&text[..n])
 }
 
-// Argument i at the start of a buffer: its length, or 0 where there is none or it does not fit.
-pub fn argument(rt: &impl Env, i: usize, buf: &mut [u8]) -> usize
-    ensures { result ≤ length buf.new }
+// Argument i at the start of a buffer: its length, where it is there and fits.
+pub fn argument(rt: &impl Env, i: usize, buf: &mut [u8]) -> Option<usize>
+    ensures { IfSome result (λ n. n ≤ length buf.new) }
 {
-    rt.arg(i, buf).unwrap_or(0)
+    rt.arg(i, buf).ok()
 }
 
 fn is_there(rt: &impl Env, i: usize) -> bool {
-    let mut text = [0u8; 1];
-    match rt.arg(i, &mut text) {
-        Ok(_) => true,
-        Err(FillError::TooLong) => true,
-        Err(FillError::NotPresent) => false,
-    }
+    !matches!(rt.arg(i, &mut [0u8; 1]), Err(FillError::NotPresent))
 }
 
 // How many arguments the program was started with, its own name among them.
 pub fn argument_count(rt: &impl Env) -> usize
     ensures { result < 2 ^ 64 }
 {
-    for i in 0..usize::MAX {
-        if !is_there(rt, i) {
-            return i;
-        }
-    }
-    usize::MAX
+    (0..usize::MAX)
+        .find(|i| !is_there(rt, *i))
+        .unwrap_or(usize::MAX)
 }
