@@ -8,11 +8,12 @@ mod word;
 
 use engine::command::{Answer, command};
 use operations::emptying::empty;
-use read::{Source, Stop};
+use read::{Stop, Words};
 use show::Page;
 use std::env::Env;
+use std::io;
 use std::io::{Input, Read};
-use stream::{argument, argument_count};
+use stream::{Sink, Source, argument, argument_count};
 
 // What is done with a block.
 #[derive(Clone, Copy, PartialEq, Eq, Debug)]
@@ -52,21 +53,23 @@ impl Tables<'_> {
     }
 
     fn show(&self, rt: &(impl Print + Eprint), answer: Answer) -> Result<(), Stop> {
-        let mut page = Page::new(rt);
-        page.answer(answer);
-        page.table(b"nodes=", self.nodes);
-        page.table(b"links=", self.links);
-        page.table(b"values=", self.values);
-        page.table(b"cells=", self.cells);
-        page.table(b"log=", self.log);
-        page.sent()
+        let mut out = [0; 8192];
+        let mut page = Page::new(rt, Sink::new(io::writer(rt), &mut out));
+        let whole = page
+            .answer(answer)
+            .and_then(|()| page.table("nodes=", self.nodes))
+            .and_then(|()| page.table("links=", self.links))
+            .and_then(|()| page.table("values=", self.values))
+            .and_then(|()| page.table("cells=", self.cells))
+            .and_then(|()| page.table("log=", self.log));
+        page.sent(whole)
     }
 }
 
 // One block, on tables of its lengths. Room for one node, one slot and one cell more than the host's; tables that are longer can't be read.
 fn block<R: Read + Drop>(
     rt: &(impl Print + Eprint),
-    source: &mut Source<R>,
+    source: &mut Words<R>,
     task: Task,
 ) -> Result<(), Stop> {
     let sizes = source.lengths(rt)?;
@@ -94,7 +97,7 @@ fn asked(rt: &impl Env) -> Option<Task> {
         0 | 1 => Some(Task::Command),
         2 => {
             let mut name = [0; 16];
-            let n = argument(rt, 1, &mut name);
+            let n = argument(rt, 1, &mut name)?;
             match &name[..n] {
                 b"empty" => Some(Task::Emptying),
                 _ => None,
@@ -105,7 +108,8 @@ fn asked(rt: &impl Env) -> Option<Task> {
 }
 
 fn run(rt: &(impl Input + Print + Eprint), task: Task) {
-    let mut source = Source::new(rt.reader());
+    let mut buf = [0; 16384];
+    let mut source = Words::new(Source::new(rt.reader(), &mut buf));
     for _ in 0..u64::MAX {
         if let Err(stop) = block(rt, &mut source, task) {
             if stop == Stop::Misread {

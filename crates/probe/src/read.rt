@@ -1,7 +1,7 @@
 // Blocks, read from standard input: numbers with white space between.
 use crate::word::Word;
 use std::io::Read;
-use stream::{Window, next};
+use stream::Source;
 
 // Why a run ends.
 #[derive(Clone, Copy, PartialEq, Eq, Debug)]
@@ -31,37 +31,21 @@ const MOST_BYTES: usize = 20;
 // No table has more words.
 const MOST_WORDS: u64 = 100000;
 
-// What is read from, and the window on what was read of it.
+// The words of what is read.
 #[derive(Drop)]
-pub(crate) struct Source<R> {
-    from: R,
-    buf: [u8; 16384],
-    window: Window,
+pub(crate) struct Words<'a, R> {
+    from: Source<'a, R>,
 }
 
-impl<R: Read + Drop> Source<R> {
-    pub(crate) fn new(from: R) -> Self {
-        Source {
-            from,
-            buf: [0; 16384],
-            window: Window {
-                at: 0,
-                end: 0,
-                over: false,
-            },
-        }
-    }
-
-    fn next(&mut self, rt: &impl Eprint) -> Option<u8> {
-        let got = next(rt, &mut self.from, &mut self.buf, self.window);
-        self.window = got.window;
-        u8::try_from(got.byte).ok()
+impl<'a, R: Read + Drop> Words<'a, R> {
+    pub(crate) fn new(from: Source<'a, R>) -> Self {
+        Words { from }
     }
 
     // The next byte that is no white space.
     fn visible(&mut self, rt: &impl Eprint) -> Option<u8> {
         for _ in 0..u64::MAX {
-            let b = self.next(rt)?;
+            let b = self.from.next(rt)?;
             if b > b' ' {
                 return Some(b);
             }
@@ -77,7 +61,7 @@ impl<R: Read + Drop> Source<R> {
                 Some(b) if b > b' ' => *place = b,
                 _ => return i,
             }
-            next = self.next(rt);
+            next = self.from.next(rt);
         }
         text.len()
     }

@@ -2,57 +2,45 @@
 use crate::read::Stop;
 use crate::word::Word;
 use engine::command::Answer;
+use std::fmt;
+use std::fmt::Write;
 use std::io;
-use stream::{Sink, send, spill};
-use text::answers::{Decimal, push, put_all, put_line};
+use stream::Sink;
 
 // A buffer before the standard output.
 #[derive(Drop)]
-pub(crate) struct Page<'a, P> {
+pub(crate) struct Page<'a, P, W> {
     rt: &'a P,
-    out: [u8; 8192],
-    sink: Sink,
+    to: Sink<'a, W>,
 }
 
-impl<'a, P: Print + Eprint> Page<'a, P> {
-    pub(crate) fn new(rt: &'a P) -> Self {
-        Page {
-            rt,
-            out: [0; 8192],
-            sink: Sink { at: 0, ok: true },
-        }
+impl<'a, P: Eprint, W: io::Write> Page<'a, P, W> {
+    pub(crate) fn new(rt: &'a P, to: Sink<'a, W>) -> Self {
+        Page { rt, to }
     }
 
-    // Room for a key or a word.
-    fn spill(&mut self) {
-        self.sink = spill(self.rt, &mut io::writer(self.rt), &self.out, self.sink);
+    pub(crate) fn answer(&mut self, answer: Answer) -> fmt::Result {
+        let Answer { code, value, runs } = answer;
+        write!(self.to, "code={code}\nvalue={value}\nruns={runs}\n")
     }
 
-    fn push(&mut self, b: u8) {
-        self.sink.at = push(&mut self.out, self.sink.at, b);
-    }
-
-    pub(crate) fn answer(&mut self, answer: Answer) {
-        let a = put_line(&mut self.out, self.sink.at, b"code=", answer.code);
-        let b = put_line(&mut self.out, a, b"value=", answer.value);
-        self.sink.at = put_line(&mut self.out, b, b"runs=", answer.runs);
-    }
-
-    pub(crate) fn table<T: Word>(&mut self, key: &[u8], t: &[T]) {
-        self.spill();
-        self.sink.at = put_all(&mut self.out, self.sink.at, key);
+    pub(crate) fn table<T: Word>(&mut self, key: &str, t: &[T]) -> fmt::Result {
+        self.to.spill(self.rt);
+        self.to.write_str(key)?;
         for (i, word) in t.iter().enumerate() {
-            self.spill();
+            self.to.spill(self.rt);
             if i > 0 {
-                self.push(b' ');
+                self.to.write_str(" ")?;
             }
-            self.sink.at = word.put_decimal(&mut self.out, self.sink.at);
+            write!(self.to, "{word}")?;
         }
-        self.push(b'\n');
+        self.to.write_str("\n")
     }
 
-    pub(crate) fn sent(&self) -> Result<(), Stop> {
-        if send(self.rt, &mut io::writer(self.rt), &self.out, self.sink.at) && self.sink.ok {
+    // Whether all fitted, and was written.
+    pub(crate) fn sent(&mut self, whole: fmt::Result) -> Result<(), Stop> {
+        self.to.flush(self.rt);
+        if whole.is_ok() && self.to.ok {
             Ok(())
         } else {
             Err(Stop::Unwritten)

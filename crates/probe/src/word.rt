@@ -1,9 +1,9 @@
 // The words of tables, and how a block spells one.
+use std::fmt::Display;
 use std::str;
-use text::answers::Decimal;
 use text::numbers::number;
 
-pub(crate) trait Word: Decimal + Copy + Drop {
+pub(crate) trait Word: Copy + Display + Drop {
     fn spelled(text: &[u8]) -> Option<Self>;
 }
 

@@ -5,92 +5,93 @@
 mod held;
 mod listed;
 
-ghost use Rattle.std.specs.Prelude.{◌<◌};
+ghost use Rattle.std.specs.Prelude.{◌-◌, ◌≤◌};
 
-use held::{Files, State, start, told};
-use listed::{Room, fits, open, room_of, tell};
+use held::{Tally, is_kept};
+use host::sizes;
+use listed::{Capacities, open, tell};
 use operations::emptying::empty;
-use script::packed::play;
+use packs::Place;
+use script::packed::{Step, play};
 use std::env::Env;
 use std::io::Read;
+use std::ops::Range;
 use std::rt;
-use stream::{argument_count, least};
+use stream::{Source, argument_count};
 
-// One pair, one line after a script, or one more read.
-fn step<F: Read>(
+// Nothing says that a file ends, so the turns are counted.
+fn session<R: Read + Drop>(
     rt: &impl Eprint,
     nodes: &mut [u64],
     links: &mut [u64],
     values: &mut [i64],
     cells: &mut [i64],
     log: &mut [i64],
-    words: &mut [i64],
-    out: &mut [u8],
-    buf: &mut [u8],
-    kept: &mut [u8],
-    files: &mut Files<F>,
-    state: State,
-) -> State {
-    let place = state.place;
-    let end = least(state.end, buf.len());
-    let at = least(state.at, end);
-    let what = play(
-        nodes,
-        links,
-        values,
-        cells,
-        log,
-        words,
-        out,
-        &buf[at..end],
-        state.over,
-        place,
-    );
-    told(rt, out, buf, kept, files, what, state)
-}
-
-// Nothing says that a file ends, so the turns are counted down.
-fn session<F: Read>(
-    rt: &impl Eprint,
-    nodes: &mut [u64],
-    links: &mut [u64],
-    values: &mut [i64],
-    cells: &mut [i64],
-    log: &mut [i64],
-    files: &mut Files<F>,
-) -> State {
+    scripts: R,
+    answers: R,
+) -> Tally {
     let mut words = [0i64; 2048];
     let mut out = [0u8; 32768];
     let mut buf = [0u8; 16384];
-    let mut kept = [0u8; 16384];
+    let mut kept_buf = [0u8; 16384];
+    let mut input = Source::new(scripts, &mut buf);
+    let mut kept = Source::new(answers, &mut kept_buf);
+    let mut place = Place::Open;
+    let mut tally = Tally::new();
     empty(nodes, links, values, cells);
-    let mut state = start();
-    let mut turns = u64::MAX;
-    while turns > 0 {
-        state = step(
-            rt, nodes, links, values, cells, log, &mut words, &mut out, &mut buf, &mut kept, files,
-            state,
+    for _ in 0..u64::MAX {
+        let what = play(
+            nodes,
+            links,
+            values,
+            cells,
+            log,
+            &mut words,
+            &mut out,
+            input.unread(),
+            input.over,
+            place,
         );
-        turns = left(turns, state.on);
+        tally.same = is_kept(rt, &mut kept, &out, what);
+        tally.count(what);
+        if !tally.same {
+            return tally;
+        }
+        let (used, then) = match what {
+            Step::Read => {
+                input.fill(rt);
+                (0, place)
+            }
+            Step::Answered { used, .. } | Step::Next(used) => (used, Place::Open),
+            Step::Ended(_) => (0, Place::InLine),
+            Step::Within(used) => (used, Place::InLine),
+            Step::Past(used) => (used, Place::AtLine),
+            Step::Stop => return tally,
+        };
+        input.advance(used);
+        place = then;
     }
-    state
+    tally
 }
 
-// How many turns are left after one.
-fn left(turns: u64, on: bool) -> u64
-    requires { 0 < turns }
-    ensures { result < turns }
-{
-    if on { turns - 1 } else { 0 }
+// The first n words of a table, or all where it has no more.
+fn cut<T>(table: &mut [T], n: u64) -> &mut [T] {
+    let n = table.len().min(n as usize);
+    &mut table[..n]
 }
 
-// Room for 256 nodes, 1,024 links, 2,048 cells and 256 log rows, as the program has, cut to a pack's lengths.
-fn run<F: Read>(rt: &impl Eprint, chosen: Room, files: &mut Files<F>) -> State {
-    let n = least(chosen.node_words, 4112);
-    let l = least(chosen.link_words, 8200);
-    let v = least(chosen.value_words, 1024);
-    let c = least(chosen.cell_words, 4096);
-    let r = least(chosen.log_words, 512);
+// Room for 256 nodes, 1,024 links, 2,048 cells and 256 log rows, as the program has, cut to a pack's capacities. Of a pack that asks for more
+// nothing is compared.
+fn run<R: Read + Drop>(rt: &impl Eprint, chosen: Capacities, scripts: R, answers: R) -> Tally {
+    let room = Capacities {
+        nodes: 256,
+        links: 1024,
+        cells: 2048,
+        rows: 256,
+    };
+    if !chosen.fit(room) {
+        return Tally::new();
+    }
     let mut nodes = [0u64; 4112];
     let mut links = [0u64; 8200];
     let mut values = [0i64; 1024];
@@ -98,46 +99,43 @@ fn run<F: Read>(rt: &impl Eprint, chosen: Room, files: &mut Files<F>) -> State {
     let mut log = [0i64; 512];
     session(
         rt,
-        &mut nodes[0..n],
-        &mut links[0..l],
-        &mut values[0..v],
-        &mut cells[0..c],
-        &mut log[0..r],
-        files,
+        cut(&mut nodes, sizes::simmer_node_words(chosen.nodes)),
+        cut(&mut links, sizes::simmer_link_words(chosen.links)),
+        cut(&mut values, sizes::simmer_value_words(chosen.nodes)),
+        cut(&mut cells, sizes::simmer_cell_words(chosen.cells)),
+        cut(&mut log, sizes::simmer_log_words(chosen.rows)),
+        scripts,
+        answers,
     )
 }
 
-// Of a pack that asks for more than there is room for, nothing is compared.
-fn found<F: Read>(rt: &impl Eprint, chosen: Room, files: &mut Files<F>) -> State {
-    if fits(chosen) {
-        return run(rt, chosen, files);
+fn pack<R: rt::Files + Env + Print + Eprint>(rt: &R, name: usize, numbers: [usize; 4]) {
+    let scripts = open(rt, name, b".in");
+    let answers = open(rt, name, b".out");
+    if let (Some(scripts), Some(answers)) = (scripts, answers) {
+        let chosen = Capacities::spelled(rt, numbers).unwrap_or(Capacities::none());
+        tell(rt, name, run(rt, chosen, scripts, answers));
     }
-    start()
 }
 
-fn pack<R: rt::Files + Env + Print + Eprint>(rt: &R, i: usize) {
-    let scripts = open(rt, i, b".in");
-    let answers = open(rt, i, b".out");
-    let Some(scripts) = scripts else {
-        return;
-    };
-    let Some(answers) = answers else {
-        return;
-    };
-    let mut files = Files { scripts, answers };
-    let state = found(rt, room_of(rt, i), &mut files);
-    tell(rt, i, state);
+fn four(places: &mut Range<usize>) -> Option<[usize; 4]>
+    ensures { places.new.end - places.new.start ≤ places.old.end - places.old.start }
+{
+    Some([
+        places.next()?,
+        places.next()?,
+        places.next()?,
+        places.next()?,
+    ])
 }
 
 fn main(rt: HostRuntime) {
-    let count = argument_count(&rt);
-    let mut i = 1;
-    while i < count {
-        if count - i < 5 {
+    let mut places = 1..argument_count(&rt);
+    while let Some(name) = places.next() {
+        let Some(numbers) = four(&mut places) else {
             let _ = rt.eprintln("usage: replay NAME NODES LINKS CELLS ROWS ..");
             return;
-        }
-        pack(&rt, i);
-        i += 5;
+        };
+        pack(&rt, name, numbers);
     }
 }

@@ -180,7 +180,7 @@ impl<'a, W: Write> Sink<'a, W> {
     }
 }
 
-// Puts text into the buffer, where there is room for all of it.
+// Puts text into the buffer. What finds no room is left out, and the answer is an error then.
 impl<W: Write> fmt::Write for Sink<'_, W> {
     ghost write_str_gives = { λ s bs t. (t.out.ghost_name ≡ s.out.ghost_name) × (t.ok ≡ s.ok) × (t.at ≡ s.at + length bs) × (take t.at t.out.now ≡ take s.at s.out.now ++ bs) };
 
@@ -188,12 +188,16 @@ impl<W: Write> fmt::Write for Sink<'_, W> {
         let text = s.as_bytes();
         let at = self.at;
         let out = &mut *self.out;
-        if out.len() < at || out.len() - at < text.len() {
+        if out.len() < at {
             return Err(fmt::Error);
         }
-        let end = at + text.len();
-        out[at..end].copy_from_slice(text);
+        let n = text.len().min(out.len() - at);
+        let end = at + n;
+        out[at..end].copy_from_slice(&text[..n]);
         self.at = end;
+        if n < text.len() {
+            return Err(fmt::Error);
+        }
         Ok(())
     }
 }
