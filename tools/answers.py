@@ -165,7 +165,7 @@ def proof(crate, module, head, text):
     got = claims(head)
     if not got:
         return None
-    m = re.match(r"(?:<[^>]*>)?\((.*?)\) ?(?:-> ([&'\w\[\]<> ]+?) )?ensures", head)
+    m = re.match(r"(?:<[^>]*>)?\((.*?)\) ?(?:-> ([&'\w\[\]<>, ]+?) )?ensures", head)
     if not m:
         return None
     params = [x.strip() for x in m.group(1).split(',') if x.strip()]
@@ -194,7 +194,7 @@ def proof(crate, module, head, text):
         if sorted('result.' + w for w in want) != fields:
             return None
         first = 'λ i. record { %s }' % '; '.join('%s = %s' % (w, found['result.' + w]) for w in want)
-    muts = [(x.split(':')[0].strip(), '&mut' in x) for x in params]
+    muts = [(x.split(':')[0].replace('&mut self', 'self').strip(), '&mut' in x) for x in params]
     if not any(b for _, b in muts):
         second = 'refl'
     else:
