@@ -2,9 +2,8 @@
 use crate::read::Stop;
 use crate::word::Word;
 use engine::command::Answer;
-use std::fmt;
 use std::fmt::Write;
-use std::io;
+use std::{fmt, io};
 use stream::Sink;
 
 // A buffer before the standard output.

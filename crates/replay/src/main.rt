@@ -19,7 +19,7 @@ use std::ops::Range;
 use std::rt;
 use stream::{Source, argument_count};
 
-// Nothing says that a file ends, so the turns are counted.
+// Nothing says that a file ends, so the turns are counted. The tables are lent one by one, as to `play`.
 fn session<R: Read + Drop>(
     rt: &impl Eprint,
     nodes: &mut [u64],

@@ -12,7 +12,7 @@ use std::io;
 use std::io::Read;
 use stream::{Source, send};
 
-// One pair, or one more read; whether the run goes on.
+// One pair, or one more read; whether the run goes on. The tables are lent one by one, as to `turn`.
 fn step<R: Read>(
     rt: &(impl Print + Eprint),
     nodes: &mut [u64],

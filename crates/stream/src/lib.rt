@@ -110,7 +110,7 @@ fn unnumbered(text: &str) -> &str {
 }
 
 // What failed, and the error's text, as a line on standard error. Where that can't be written there is nobody to tell. It answers no, as
-// what failed does.
+// what failed does: this is its promise, and stays.
 pub fn fail(rt: &impl Eprint, what: &str, error: io::Error) -> bool
     ensures { result ≡ false }
 {
@@ -120,7 +120,8 @@ pub fn fail(rt: &impl Eprint, what: &str, error: io::Error) -> bool
     false
 }
 
-// Writes the first n bytes. An error is told on standard error; the answer is no then, and where there are not so many bytes.
+// Writes the first n bytes. An error is told on standard error; the answer is no then, and where there are not so many bytes:
+// this promise speaks of n, so the length stays beside the buffer.
 pub fn send<W: Write>(rt: &impl Eprint, to: &mut W, out: &[u8], n: usize) -> bool
     ensures { length out.now < n → result ≡ false }
 {

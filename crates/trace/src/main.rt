@@ -33,7 +33,7 @@ fn told(rt: &(impl Print + Eprint), out: &[u8], what: Step, shown: Option<View>)
     }
 }
 
-// Nothing says that the input ends, so the turns are counted.
+// Nothing says that the input ends, so the turns are counted. The tables are lent one by one, as to `play`.
 fn session(
     rt: &(impl io::Input + Print + Eprint),
     nodes: &mut [u64],

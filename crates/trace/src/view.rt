@@ -5,9 +5,8 @@ use primitive::rows::{
     CYCLE, DEP, DEPS, DEPTH, FLAGS, KIND, LINK, NEXT_DEP, NEXT_SUB, NODE, SUB, SUBS, VERSION,
 };
 use primitive::words;
-use std::fmt;
 use std::fmt::Write;
-use std::io;
+use std::{fmt, io};
 use stream::Sink;
 
 // The tables that are shown.
