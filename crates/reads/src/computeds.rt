@@ -13,6 +13,7 @@ use primitive::words;
 use values::Value;
 
 // A first evaluation is in the cycle at hand.
+#[tactic(auto, unfolding(reading::specs::Steps::begun_first))]
 pub fn begin_first(nodes: &mut [u64], n: u64)
     ensures { nodes.new ≡ begun_first nodes.old n }
 {
@@ -20,6 +21,7 @@ pub fn begin_first(nodes: &mut [u64], n: u64)
 }
 
 // A re-evaluation is in a new cycle, and no dependency is reached yet.
+#[tactic(auto, unfolding(reading::specs::Steps::begun))]
 pub fn begin(nodes: &mut [u64], links: &mut [u64], n: u64)
     ensures { (v : List ℤ) → state nodes.new links.new v ≡ begun (state nodes.old links.old v) n }
 {
@@ -29,6 +31,7 @@ pub fn begin(nodes: &mut [u64], links: &mut [u64], n: u64)
 }
 
 // The value is kept. There was no dependency before, so none goes.
+#[tactic(auto, unfolding(reading::specs::Steps::finished_first))]
 pub fn finish_first(nodes: &mut [u64], values: &mut [i64], n: u64, v: Value)
     ensures { (l : List ℕ) → state nodes.new l values.new ≡ finished_first (state nodes.old l values.old) n v }
 {

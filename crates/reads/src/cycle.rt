@@ -6,6 +6,7 @@ use primitive::rows::CYCLE;
 use primitive::words;
 use version::Version;
 
+#[tactic(auto, unfolding(reading::specs::Tables::cycle_of))]
 pub fn cycle(links: &[u64]) -> Version
     ensures { result.cycle ≡ cycle_of links.now }
 {
@@ -15,6 +16,7 @@ pub fn cycle(links: &[u64]) -> Version
 }
 
 // After the greatest comes 0.
+#[tactic(auto, unfolding(reading::specs::Tables::raised))]
 pub fn raise_cycle(links: &mut [u64])
     ensures { links.new ≡ raised links.old }
 {

@@ -4,6 +4,7 @@ ghost use Rattle.reading.specs.Tables.{current_of, pending_of, set_current, set_
 
 use values::Value;
 
+#[tactic(auto, using(reading::proofs::StepLaws::current_out), unfolding(reading::specs::Tables::current_of))]
 pub fn current(values: &[i64], n: u64) -> Value
     ensures { result ≡ current_of values.now n }
 {
@@ -13,6 +14,7 @@ pub fn current(values: &[i64], n: u64) -> Value
     values::load(values, n * 2)
 }
 
+#[tactic(auto, using(reading::proofs::StepLaws::pending_out), unfolding(reading::specs::Tables::pending_of))]
 pub fn pending(values: &[i64], n: u64) -> Value
     ensures { result ≡ pending_of values.now n }
 {
@@ -22,6 +24,7 @@ pub fn pending(values: &[i64], n: u64) -> Value
     values::load(values, n * 2 + 1)
 }
 
+#[tactic(auto, using(reading::proofs::StepLaws::set_current_out), unfolding(reading::specs::Tables::set_current))]
 pub fn keep_current(values: &mut [i64], n: u64, v: Value)
     ensures { values.new ≡ set_current values.old n v }
 {
@@ -31,6 +34,7 @@ pub fn keep_current(values: &mut [i64], n: u64, v: Value)
     values::keep(values, n * 2, v);
 }
 
+#[tactic(auto, using(reading::proofs::StepLaws::set_pending_out), unfolding(reading::specs::Tables::set_pending))]
 pub fn keep_pending(values: &mut [i64], n: u64, v: Value)
     ensures { values.new ≡ set_pending values.old n v }
 {

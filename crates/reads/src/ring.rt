@@ -31,6 +31,7 @@ pub struct Worked {
     pub next: u64,
 }
 
+#[tactic(auto, unfolding(trees::specs::Trees::apply))]
 fn apply(op: Op, a: Value, b: Value) -> Value
     ensures { result ≡ apply op a b }
 {

@@ -7,6 +7,7 @@ use primitive::rows::{LINK, NEXT_SUB, NODE, SUBS};
 use primitive::slots::Slot;
 use primitive::{slots, words};
 
+#[tactic(auto, unfolding(reading::specs::Steps::woken))]
 pub fn wake(nodes: &mut [u64], links: &[u64], n: u64)
     ensures { nodes.new ≡ woken links.now nodes.old n }
 {
@@ -17,6 +18,7 @@ pub fn wake(nodes: &mut [u64], links: &[u64], n: u64)
 }
 
 // The dirty check's rule: the one subscriber that asks is told by the answer, so only further ones are woken.
+#[tactic(auto, unfolding(reading::specs::Steps::woken_others))]
 pub fn wake_others(nodes: &mut [u64], links: &[u64], n: u64)
     ensures { nodes.new ≡ woken_others links.now nodes.old n }
 {

@@ -6,6 +6,7 @@ ghost use Rattle.spelling.specs.Answers.{line, row, rows, answer, unreadable_ans
 
 // One more at out[at]; answers the next place. Slice and place stay two: a struct of them would hold a `&mut`, and each contract would need a
 // second clause, that it is the same slice still (`self.new.held.ghost_name ≡ self.old.held.ghost_name`).
+#[tactic(auto, unfolding(spelling::specs::Buffers::pushed))]
 pub fn push<T: Copy>(out: &mut [T], at: usize, x: T) -> usize
     ensures { buffer out.new result ≡ pushed (buffer out.old at) x }
 {
@@ -17,6 +18,7 @@ pub fn push<T: Copy>(out: &mut [T], at: usize, x: T) -> usize
     }
 }
 
+#[tactic(auto, unfolding(spelling::specs::Buffers::put))]
 pub fn put_all(out: &mut [u8], at: usize, s: &[u8]) -> usize
     ensures { buffer out.new result ≡ put (buffer out.old at) s.now }
 {
@@ -48,12 +50,14 @@ fn put_digits(out: &mut [u8], at: usize, n: u64, most: u64) -> usize
     push(out, to, glyph_of(n))
 }
 
+#[tactic(auto, unfolding(spelling::specs::Buffers::put, spelling::specs::Decimals::decimal))]
 pub fn put_natural(out: &mut [u8], at: usize, n: u64) -> usize
     ensures { buffer out.new result ≡ put (buffer out.old at) (decimal (pos n)) }
 {
     put_digits(out, at, n, 20)
 }
 
+#[tactic(auto, unfolding(spelling::specs::Buffers::put, spelling::specs::Decimals::decimal))]
 pub fn put_integer(out: &mut [u8], at: usize, v: i64) -> usize
     ensures { buffer out.new result ≡ put (buffer out.old at) (decimal v) }
 {
@@ -85,6 +89,7 @@ impl Decimal for i64 {
     }
 }
 
+#[tactic(auto, using(spelling::proofs::AnswerLaws::put_line), unfolding(spelling::specs::Buffers::put, spelling::specs::Answers::line))]
 pub fn put_line<N: Decimal>(out: &mut [u8], at: usize, key: &[u8], n: N) -> usize
     ensures { buffer out.new result ≡ put (buffer out.old at) (line key.now (N.value n)) }
 {
@@ -94,6 +99,7 @@ pub fn put_line<N: Decimal>(out: &mut [u8], at: usize, key: &[u8], n: N) -> usiz
 }
 
 // A line `run=E:V`.
+#[tactic(auto, using(spelling::proofs::AnswerLaws::put_row), unfolding(spelling::specs::Buffers::put, spelling::specs::Answers::row))]
 fn put_row(out: &mut [u8], at: usize, e: i64, v: i64) -> usize
     ensures { buffer out.new result ≡ put (buffer out.old at) (row e v) }
 {
@@ -105,6 +111,7 @@ fn put_row(out: &mut [u8], at: usize, e: i64, v: i64) -> usize
 }
 
 // The first rows of the log.
+#[tactic(auto, using(spelling::proofs::AnswerLaws::put_rows_none, spelling::proofs::AnswerLaws::put_rows_short, spelling::proofs::AnswerLaws::put_rows_more), unfolding(spelling::specs::Buffers::put, spelling::specs::Answers::rows))]
 fn put_rows(out: &mut [u8], at: usize, log: &[i64], runs: u64) -> usize
     ensures { buffer out.new result ≡ put (buffer out.old at) (rows runs log.now) }
 {
@@ -121,6 +128,7 @@ fn put_rows(out: &mut [u8], at: usize, log: &[i64], runs: u64) -> usize
 }
 
 // An answer from out[0] on; answers how many bytes.
+#[tactic(auto, using(spelling::proofs::AnswerLaws::put_answer), unfolding(spelling::specs::Buffers::put, spelling::specs::Answers::answer))]
 pub fn put_answer(out: &mut [u8], code: u64, value: i64, runs: u64, log: &[i64]) -> usize
     ensures { buffer out.new result ≡ put (buffer out.old 0) (answer code value runs log.now) }
 {
@@ -131,6 +139,7 @@ pub fn put_answer(out: &mut [u8], code: u64, value: i64, runs: u64, log: &[i64])
 }
 
 // The answer to a pair that can't be read: refusal 2, value 0, no runs.
+#[tactic(auto, unfolding(spelling::specs::Buffers::put, spelling::specs::Answers::unreadable_answer))]
 pub fn put_unreadable(out: &mut [u8]) -> usize
     ensures { buffer out.new result ≡ put (buffer out.old 0) unreadable_answer }
 {

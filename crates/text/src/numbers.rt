@@ -6,6 +6,7 @@ ghost use Rattle.spelling.specs.Numbers.{digits_from, natural, within, plus, min
 const LARGEST: u64 = 1 << 63;
 
 // The digits from the first on. Nothing over 2^63 is told.
+#[tactic(auto, using(spelling::proofs::NumberLaws::digits_none, spelling::proofs::NumberLaws::digits_over, spelling::proofs::NumberLaws::digits_more, spelling::proofs::NumberLaws::digits_end), unfolding(spelling::specs::Numbers::within, spelling::specs::Numbers::digits_from))]
 fn digits_of(s: &[u8]) -> Option<u64>
     ensures { result ≡ within (digits_from 0 s.now) }
 {
@@ -20,6 +21,7 @@ fn digits_of(s: &[u8]) -> Option<u64>
 }
 
 // At least one digit, and a 0 leads nothing but itself.
+#[tactic(auto, using(spelling::proofs::NumberLaws::natural_empty, spelling::proofs::NumberLaws::natural_zero, spelling::proofs::NumberLaws::natural_leads, spelling::proofs::NumberLaws::natural_digits), unfolding(spelling::specs::Numbers::within, spelling::specs::Numbers::natural))]
 pub fn magnitude(s: &[u8]) -> Option<u64>
     ensures { result ≡ within (natural s.now) }
 {
@@ -30,6 +32,7 @@ pub fn magnitude(s: &[u8]) -> Option<u64>
     }
 }
 
+#[tactic(auto, unfolding(spelling::specs::Numbers::plus))]
 fn positive(d: Option<u64>) -> Option<i64>
     ensures { result ≡ plus d }
 {
@@ -37,6 +40,7 @@ fn positive(d: Option<u64>) -> Option<i64>
 }
 
 // -0 is no number, and -2^63 is one.
+#[tactic(auto, unfolding(spelling::specs::Numbers::minus))]
 fn negative(d: Option<u64>) -> Option<i64>
     ensures { result ≡ minus d }
 {
