@@ -13,9 +13,10 @@ use links::link::link;
 use operating::making::Sort;
 use operations::log::write_row;
 use operations::runs::end_run;
+use primitive::kinds::Kind;
 use primitive::rows::{
-    CELLS, COMPUTED, COUNT, DEPS, DEPS_TAIL, EFFECT, FLAGS, GONE, KIND, LEVEL, NODE, OWNER, READS,
-    SCOPE, SIGNAL, START, SUBS, SUBS_TAIL, USED,
+    CELLS, COUNT, DEPS, DEPS_TAIL, FLAGS, GONE, KIND, LEVEL, NODE, OWNER, READS, START, SUBS,
+    SUBS_TAIL, USED,
 };
 use primitive::slots::Slot;
 use primitive::{slots, words};
@@ -41,7 +42,7 @@ fn describe(nodes: &mut [u64], n: u64, sort: Sort, formula: &[i64])
 {
     let start = words::at(nodes, USED);
     words::store(nodes, NODE, n, FLAGS, u64::from(sort.flags));
-    words::store(nodes, NODE, n, KIND, sort.kind);
+    words::store(nodes, NODE, n, KIND, sort.kind.word());
     words::store(nodes, NODE, n, GONE, 0);
     words::store(nodes, NODE, n, DEPS, 0);
     words::store(nodes, NODE, n, DEPS_TAIL, 0);
@@ -123,7 +124,7 @@ pub fn new_signal(nodes: &mut [u64], values: &mut [i64], cells: &mut [i64], v: V
     ensures { (l : List ℕ) → made result (state nodes.new l values.new) cells.new ≡ new_signal (state nodes.old l values.old) cells.old v }
 {
     let sort = Sort {
-        kind: SIGNAL,
+        kind: Kind::Signal,
         flags: Flags::MUTABLE,
         owner: 0,
         level: 0,
@@ -141,7 +142,7 @@ pub fn new_computed(
     ensures { (l : List ℕ) → made result (state nodes.new l values.new) cells.new ≡ new_computed (state nodes.old l values.old) cells.old formula.now }
 {
     let sort = Sort {
-        kind: COMPUTED,
+        kind: Kind::Computed,
         flags: Flags::NONE,
         owner: 0,
         level: height(nodes, formula),
@@ -159,7 +160,7 @@ pub fn new_scope(
     ensures { made result (state nodes.new links.new values.new) cells.new ≡ new_scope (state nodes.old links.old values.old) cells.old owner }
 {
     let sort = Sort {
-        kind: SCOPE,
+        kind: Kind::Scope,
         flags: Flags::NONE,
         owner,
         level: depth_under(nodes, owner),
@@ -189,7 +190,7 @@ pub fn new_effect(
     ensures { started result.number (ran_to (state nodes.new links.new values.new) log.new result.rows) cells.new ≡ new_effect (state nodes.old links.old values.old) cells.old log.old owner formula.now }
 {
     let sort = Sort {
-        kind: EFFECT,
+        kind: Kind::Effect,
         flags: Flags::RUNNING,
         owner,
         level: depth_under(nodes, owner),

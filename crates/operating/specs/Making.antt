@@ -5,8 +5,11 @@ use Rattle.primitive.specs.declared.slots.Slot.{Slot}
 use Rattle.primitive.specs.declared.slots.Slot.TheVariants.{At, Nothing}
 use Rattle.values.specs.declared.Value.{Value}
 use Rattle.primitive.specs.Slots.{slot_of}
+use Rattle.primitive.specs.declared.kinds.Kind.{Kind}
+use Rattle.primitive.specs.declared.kinds.Kind.TheVariants.{Signal, Computed, Effect, Scope}
+use Rattle.primitive.specs.Kinds.{kind_word}
 use Rattle.values.specs.Values.{value}
-use Rattle.primitive.specs.Words.{COUNT, USED, FLAGS, KIND, GONE, DEPS, DEPS-TAIL, SUBS, SUBS-TAIL, START, CELLS, READS, OWNER, LEVEL, SIGNAL, COMPUTED, EFFECT, SCOPE, set_node, node_rows}
+use Rattle.primitive.specs.Words.{COUNT, USED, FLAGS, KIND, GONE, DEPS, DEPS-TAIL, SUBS, SUBS-TAIL, START, CELLS, READS, OWNER, LEVEL, set_node, node_rows}
 use Rattle.trees.specs.Names.{read_cells, height_in, most_height}
 use Rattle.counting.specs.Depths.{most_owner_depth, depth_under}
 use Rattle.linking.specs.Table.{tab}
@@ -28,7 +31,7 @@ set_all N n ((f, w) ∷ fs) = set_all (set_node N n f w) n fs
 unfoldable pub described : List ℕ → ℕ → Sort → List ℤ → List ℕ
 described N n k ws =
     set_all N n
-    ((FLAGS, k.flags.bits) ∷ (KIND, k.kind) ∷ (GONE, 0) ∷ (DEPS, 0) ∷ (DEPS-TAIL, 0) ∷ (SUBS, 0) ∷ (SUBS-TAIL, 0)
+    ((FLAGS, k.flags.bits) ∷ (KIND, kind_word k.kind) ∷ (GONE, 0) ∷ (DEPS, 0) ∷ (DEPS-TAIL, 0) ∷ (SUBS, 0) ∷ (SUBS-TAIL, 0)
     ∷ (START, get_or N USED 0) ∷ (CELLS, length ws / 2) ∷ (READS, read_cells ws) ∷ (OWNER, k.owner) ∷ (LEVEL, k.level) ∷ [])
 
 -- the words of a formula from word i on
@@ -74,24 +77,24 @@ unfoldable pub owned : State → ℕ → ℕ → State
 owned s n w = owned_by s n (slot_of w)
 
 -- ---- the four kinds
-abbrev pub sort : ℕ → Flags → ℕ → ℕ → Sort
+abbrev pub sort : Kind → Flags → ℕ → ℕ → Sort
 sort k f o l = record { kind = k; flags = f; owner = o; level = l }
 
 abbrev pub bits : ℕ → Flags
 bits f = record { bits = f }
 
 unfoldable pub new_signal : State → List ℤ → Value → Made
-new_signal s c v = make s c (sort SIGNAL (bits mutable) 0 0) [] v
+new_signal s c v = make s c (sort Signal (bits mutable) 0 0) [] v
 
 -- not evaluated before something reads it
 unfoldable pub new_computed : State → List ℤ → List ℤ → Made
-new_computed s c ws = make s c (sort COMPUTED (bits none) 0 (min (suc most_height) (height_in s.nodes ws))) ws (value (pos 0))
+new_computed s c ws = make s c (sort Computed (bits none) 0 (min (suc most_height) (height_in s.nodes ws))) ws (value (pos 0))
 
-abbrev pub owned_sort : State → ℕ → ℕ → ℕ → Sort
+abbrev pub owned_sort : State → Kind → ℕ → ℕ → Sort
 owned_sort s k f w = sort k (bits f) w (min (suc most_owner_depth) (depth_under s.nodes w))
 
 unfoldable pub new_scope : State → List ℤ → ℕ → Made
-new_scope s c w = let m = make s c (owned_sort s SCOPE none w) [] (value (pos 0)) in made m.number (owned m.after m.number w) m.cells
+new_scope s c w = let m = make s c (owned_sort s Scope none w) [] (value (pos 0)) in made m.number (owned m.after m.number w) m.cells
 
 -- a new effect, with its run
 pub record Started : Type 0 where
@@ -105,6 +108,6 @@ started n r c = record { number = n; ran = r; cells = c }
 -- it runs at once, in the cycle at hand
 unfoldable pub new_effect : State → List ℤ → List ℤ → ℕ → List ℤ → Started
 new_effect s c l w ws =
-    let m = make s c (owned_sort s EFFECT running w) ws (value (pos 0)) in
+    let m = make s c (owned_sort s Effect running w) ws (value (pos 0)) in
     let g = evaluated_for m.cells (owned m.after m.number w) m.number in
     started m.number (ran_to (state (ended_run g.after.nodes m.number) g.after.links g.after.values) (rowed l m.number g.value) (rows_in l)) m.cells

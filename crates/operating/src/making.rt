@@ -1,9 +1,10 @@
 use flags::Flags;
+use primitive::kinds::Kind;
 
 // What a new node is, besides its formula. The owner is a word: 0 for none, else its number + 1.
 #[derive(Clone, Copy)]
 pub struct Sort {
-    pub kind: u64,
+    pub kind: Kind,
     pub flags: Flags,
     pub owner: u64,
     pub level: u64,

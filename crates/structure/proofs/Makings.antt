@@ -10,7 +10,9 @@ use Rattle.flags.specs.declared.Named.{Named}
 use Rattle.values.specs.declared.Value.{Value}
 use Rattle.primitive.specs.Slots.{slot_of}
 use Rattle.values.specs.Values.{value}
-use Rattle.primitive.specs.Words.{SIGNAL, COMPUTED, EFFECT, SCOPE, LEVEL, node as word}
+use Rattle.primitive.specs.declared.kinds.Kind.{Kind as NodeKind}
+use Rattle.primitive.specs.declared.kinds.Kind.TheVariants.{Signal, Computed, Effect, Scope}
+use Rattle.primitive.specs.Words.{LEVEL, node as word}
 use Rattle.trees.specs.Trees.{Tree, constant, written, names}
 use Rattle.trees.specs.Names.{tallest, tallest_in, height_in, most_height}
 use Rattle.trees.proofs.Ends.{all_named-written}
@@ -48,7 +50,7 @@ module _ (x : State) (C : List ℤ) (s : St) (r : Sees [] x C s) where
 
   pub signal_makes : (v : Value) → Fits s signal (constant (pos 0)) None → Makes (new_signal x C v) s (signalL s v)
   unfolding new_signal signalL
-  signal_makes v fits = made_as (sort SIGNAL (bits 1) 0 0) [] v signal (constant (pos 0)) None f1 fits (record { kind = refl; flags = refl; owner = refl; level = refl; written = λ e. false≢true e; without = λ e. (refl, refl) })
+  signal_makes v fits = made_as (sort Signal (bits 1) 0 0) [] v signal (constant (pos 0)) None f1 fits (record { kind = refl; flags = refl; owner = refl; level = refl; written = λ e. false≢true e; without = λ e. (refl, refl) })
 
   -- heights and owner depths are the same
   levels : (λ (n : ℕ). word x.nodes n LEVEL) ≡ s.level
@@ -66,7 +68,7 @@ module _ (x : State) (C : List ℤ) (s : St) (r : Sees [] x C s) where
   computed_makes ws t e fits =
       let h : height_in x.nodes ws ≡ height_of s.level t = ap (height_in x.nodes) e ∙ height_is t in
       let low = fits.level in
-      made_as (sort COMPUTED (bits 0) 0 (min (suc most_height) (height_in x.nodes ws))) ws (value (pos 0)) computed t None f0 fits
+      made_as (sort Computed (bits 0) 0 (min (suc most_height) (height_in x.nodes ws))) ws (value (pos 0)) computed t None f0 fits
       (record { kind = refl; flags = refl; owner = refl; level = omega arith; written = λ q. e; without = λ q. false≢true (sym q) })
 
   -- ---- with an owner
@@ -91,7 +93,7 @@ module _ (x : State) (C : List ℤ) (s : St) (r : Sees [] x C s) where
     abbrev pub with_owner : Made → Made
     with_owner m = made m.number (owned m.after m.number (owner_word o)) m.cells
 
-    owned_makes : (k f : ℕ) (ws : List ℤ) (K : Kind) (t : Tree) (b : Named) → b.pending ≡ false → (fits : Fits s K t o) → readable K ≡ false → Says s (owned_sort x k f (owner_word o)) ws K t o b
+    owned_makes : (k : NodeKind) (f : ℕ) (ws : List ℤ) (K : Kind) (t : Tree) (b : Named) → b.pending ≡ false → (fits : Fits s K t o) → readable K ≡ false → Says s (owned_sort x k f (owner_word o)) ws K t o b
         → Makes (with_owner (make x C (owned_sort x k f (owner_word o)) ws (value (pos 0)))) s (ownedL (node s K t o b nothing) s.size o)
     owned_makes k f ws K t b calm fits q says =
         let m = make x C (owned_sort x k f (owner_word o)) ws (value (pos 0)) in
@@ -106,12 +108,12 @@ module _ (x : State) (C : List ℤ) (s : St) (r : Sees [] x C s) where
     scope_makes fits =
         let e = depth_is o in
         let low = fits.level in
-        owned_makes SCOPE 0 [] scope (constant (pos 0)) f0 refl fits refl (record { kind = refl; flags = refl; owner = refl; level = omega arith; written = λ q. false≢true q; without = λ q. (refl, refl) })
+        owned_makes Scope 0 [] scope (constant (pos 0)) f0 refl fits refl (record { kind = refl; flags = refl; owner = refl; level = omega arith; written = λ q. false≢true q; without = λ q. (refl, refl) })
 
     -- an effect, before its run
     pub effect_makes : (ws : List ℤ) (t : Tree) → ws ≡ written t → Fits s effect t o
-        → Makes (with_owner (make x C (owned_sort x EFFECT running (owner_word o)) ws (value (pos 0)))) s (ownedL (node s effect t o f6 nothing) s.size o)
+        → Makes (with_owner (make x C (owned_sort x Effect running (owner_word o)) ws (value (pos 0)))) s (ownedL (node s effect t o f6 nothing) s.size o)
     effect_makes ws t q fits =
         let e = depth_is o in
         let low = fits.level in
-        owned_makes EFFECT running ws effect t f6 refl fits refl (record { kind = refl; flags = refl; owner = refl; level = omega arith; written = λ z. q; without = λ z. false≢true (sym z) })
+        owned_makes Effect running ws effect t f6 refl fits refl (record { kind = refl; flags = refl; owner = refl; level = omega arith; written = λ z. q; without = λ z. false≢true (sym z) })

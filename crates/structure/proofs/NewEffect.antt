@@ -9,7 +9,7 @@ use lib.IntN.{ℤ, pos}
 use lib.ListN.{length}
 use Rattle.values.specs.declared.Value.{Value}
 use Rattle.values.specs.Values.{value}
-use Rattle.primitive.specs.Words.{EFFECT}
+use Rattle.primitive.specs.declared.kinds.Kind.TheVariants.{Effect}
 use Rattle.trees.specs.Trees.{Tree, written, names}
 use Rattle.reading.specs.Tables.{State, state}
 use Rattle.reading.specs.Read.{evaluated_for}
@@ -63,7 +63,7 @@ module _ (x : State) (C : List ℤ) (s : St) (r : Sees [] x C s) (w : WellFormed
   m = madeL s w effect t f6 nothing refl o fits (λ p e. refl)
 
   abbrev Y : Made
-  Y = with_owner x C s r w free o (make x C (owned_sort x EFFECT running (owner_word o)) ws (value (pos 0)))
+  Y = with_owner x C s r w free o (make x C (owned_sort x Effect running (owner_word o)) ws (value (pos 0)))
 
   y : Makes Y s X
   y = effect_makes x C s r w free o ws t spelt fits

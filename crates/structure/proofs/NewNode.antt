@@ -21,6 +21,7 @@ use Rattle.trees.proofs.Ends.{read_cells_lem}
 use Rattle.lists.specs.Sum.{bit}
 use Rattle.refusing.specs.Sight.{kind_of}
 use Rattle.reading.specs.Tables.{State, state, set_current}
+use Rattle.primitive.specs.Kinds.{kind_word as word_of}
 use Rattle.operating.specs.declared.making.Sort.{Sort}
 use Rattle.operating.specs.Making.{Made, made, described, laid, valued, has_room, make}
 use Rattle.meaning.specs.State.{St, Kind, signal, computed, effect, scope, deps, up}
@@ -40,7 +41,7 @@ use Rattle.structure.proofs.NewRow.{with_row, new_long, new_head, new_count, new
 
 -- the words k, ws of a new node say kind K, formula t, owner o and flags b
 pub record Says (s : St) (k : Sort) (ws : List ℤ) (K : Kind) (t : Tree) (o : Option ℕ) (b : Named) : Type 0 where
-  pub kind : k.kind ≡ kind_word K
+  pub kind : word_of k.kind ≡ kind_word K
   pub flags : k.flags.bits ≡ byte b
   pub owner : k.owner ≡ owner_word o
   pub level : k.level ≡ level_of s.level K t o

@@ -15,6 +15,7 @@ use Rattle.primitive.proofs.RowLaws.{other_record, other_field, length-set_field
 use Rattle.trees.specs.Names.{read_cells}
 use Rattle.telling.specs.Formulas.{own_cells}
 use Rattle.telling.specs.Whole.{used_cells}
+use Rattle.primitive.specs.Kinds.{kind_word as word_of}
 use Rattle.operating.specs.declared.making.Sort.{Sort}
 use Rattle.operating.specs.Making.{set_all, described, laid}
 use Rattle.meaning.proofs.Laws.{branch}
@@ -96,7 +97,7 @@ module _ (N : List ℕ) (n : ℕ) (k : Sort) (ws : List ℤ) (c u : ℕ) (there 
   unfolding described has_field
   new_flags = row n FLAGS ∙ all_at n _ N FLAGS refl there
 
-  pub new_kind : node M n KIND ≡ k.kind
+  pub new_kind : node M n KIND ≡ word_of k.kind
   unfolding described has_field
   new_kind = row n KIND ∙ all_at n _ N KIND refl there
 

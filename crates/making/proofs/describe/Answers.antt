@@ -7,6 +7,7 @@ unfolding described set_all
 returns c = rw (
   ← c.at-start.ensures,
   ← c.from.ensures,
+  ← c.word.ensures,
   ← c.store.ensures,
   ← c.store-2.ensures,
   ← c.store-3.ensures,
