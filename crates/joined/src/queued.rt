@@ -52,6 +52,7 @@ fn pay(live: bool, budget: u64) -> Option<u64>
 }
 
 // The entries in order, each marked as it is met, the live ones taken off the budget.
+#[tactic(auto, using(crate::proofs::QueueTurns::scan_start, crate::proofs::QueueTurns::scan_end, crate::proofs::QueueTurns::scan_bad, crate::proofs::QueueTurns::scan_seen, crate::proofs::QueueTurns::scan_broke, crate::proofs::QueueTurns::scan_turn), unfolding(resting::specs::Queued::scanned, queue::specs::Queue::queue_of))]
 fn scan(nodes: &[u64], seen: &mut [u64], budget: u64) -> Option<u64>
     ensures { result ≡ scanned nodes.now seen.old (queue_of nodes.now) budget }
 {

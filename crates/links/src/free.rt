@@ -6,6 +6,7 @@ use primitive::rows::{FREE, LINK, LIVE, NEXT_DEP};
 use primitive::slots::Slot;
 use primitive::{slots, words};
 
+#[tactic(auto, unfolding(linking::specs::Free::is_live_slot))]
 pub fn is_live(links: &[u64], s: u64) -> bool
     ensures { result ≡ is_live_slot links.now s }
 {
@@ -22,6 +23,7 @@ pub fn live(links: &[u64]) -> u64
 
 // The word of the first free slot, which is live then and off the list; 0 where no slot is free, and nothing changes. A word and no Slot: the tables keep it as it is,
 // and to make it again from a slot is a sum that could wrap.
+#[tactic(auto, unfolding(linking::specs::Free::taken))]
 pub fn take(links: &mut [u64]) -> u64
     ensures { fresh result links.new ≡ taken links.old }
 {
@@ -36,6 +38,7 @@ pub fn take(links: &mut [u64]) -> u64
 }
 
 // A live slot goes to the front of the list. One that is not live is left alone, so none is freed twice, and the sum cannot wrap: a live slot lies in the table.
+#[tactic(auto, using(linking::proofs::FreeLaws::live_in, linking::proofs::FreeLaws::released_live, linking::proofs::FreeLaws::released_dead), unfolding(linking::specs::Free::released))]
 pub fn release(links: &mut [u64], s: u64)
     ensures { links.new ≡ released links.old s }
 {

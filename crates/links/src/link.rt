@@ -16,6 +16,7 @@ use primitive::{slots, words};
 use version::Version;
 
 // Whether the slot that w names depends on dep.
+#[tactic(auto, unfolding(linking::specs::Link::names))]
 fn names(links: &[u64], w: u64, dep: u64) -> bool
     ensures { result ≡ names links.now w dep }
 {
@@ -57,6 +58,7 @@ fn new_link(links: &mut [u64], init: LinkInit) -> u64
     w
 }
 
+#[tactic(auto, unfolding(linking::specs::Link::set_back))]
 fn set_back(links: &mut [u64], next: u64, w: u64)
     ensures { links.new ≡ set_back links.old next w }
 {
@@ -82,6 +84,7 @@ fn insert(nodes: &mut [u64], links: &mut [u64], init: LinkInit)
 }
 
 // The link that w names serves again.
+#[tactic(auto, unfolding(linking::specs::Link::reused))]
 fn reuse(nodes: &mut [u64], links: &mut [u64], sub: u64, version: Version, w: u64)
     ensures { tab nodes.new links.new ≡ reused (tab nodes.old links.old) sub version.cycle w }
 {

@@ -14,6 +14,7 @@ use primitive::slots::Slot;
 use primitive::{slots, words};
 
 // Whether the slot is its dependency's only subscriber.
+#[tactic(auto, unfolding(linking::specs::Ring::is_only))]
 fn is_only(links: &[u64], s: u64) -> bool
     ensures { result ≡ is_only links.now s }
 {
@@ -23,6 +24,7 @@ fn is_only(links: &[u64], s: u64) -> bool
     false
 }
 
+#[tactic(auto, using(flags::proofs::FlagLaws::tells), unfolding(linking::specs::Ring::is_mutable))]
 fn is_mutable(nodes: &[u64], n: u64) -> bool
     ensures { result ≡ is_mutable nodes.now n }
 {
@@ -31,6 +33,7 @@ fn is_mutable(nodes: &[u64], n: u64) -> bool
 }
 
 // No dependency of node n is kept, and these are its flags.
+#[tactic(auto, unfolding(linking::specs::Ring::reset))]
 fn reset(nodes: &mut [u64], n: u64, flags: Flags)
     ensures { nodes.new ≡ reset nodes.old n flags.bits }
 {
@@ -39,6 +42,7 @@ fn reset(nodes: &mut [u64], n: u64, flags: Flags)
 }
 
 // Node n is gone for good.
+#[tactic(auto, unfolding(linking::specs::Ring::retired))]
 fn retire(nodes: &mut [u64], n: u64)
     ensures { nodes.new ≡ retired nodes.old n }
 {

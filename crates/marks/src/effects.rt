@@ -11,6 +11,7 @@ use primitive::slots::Slot;
 use primitive::{slots, words};
 
 // Without WATCHING, so that it is not queued twice.
+#[tactic(auto, unfolding(marking::specs::Notify::queued))]
 fn enqueue(nodes: &mut [u64], e: u64)
     ensures { nodes.new ≡ queued nodes.old e }
 {

@@ -75,6 +75,7 @@ fn reach(nodes: &mut [u64], links: &[u64], s: u64, sub: u64) -> Flags
 }
 
 // The first subscriber link of a node, where the flags that are left have MUTABLE.
+#[tactic(auto, using(marking::proofs::Tests::masked_nonzero, marking::proofs::WalkLaws::below_open, marking::proofs::WalkLaws::below_shut), unfolding(marking::specs::Walks::below))]
 fn below(nodes: &[u64], sub: u64, flags: Flags) -> Slot
     ensures { result ≡ below nodes.now sub flags.bits }
 {
@@ -129,6 +130,7 @@ fn propagate_on(
 }
 
 // How high a stack of nothing is with one more on it.
+#[tactic(auto, unfolding(stack::specs::Stack::pushed_len))]
 fn one_higher(len: u64) -> u64
     ensures { result ≡ pushed_len blank len }
 {
