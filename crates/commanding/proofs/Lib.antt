@@ -1,3 +1,4 @@
 pub mod EngineLaws
 pub mod LentLog
 pub mod Refused
+pub mod AnswerLaws

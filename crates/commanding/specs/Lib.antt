@@ -1,3 +1,4 @@
 pub mod Tables
 pub mod Perform
 pub mod Command
+pub mod Answers

@@ -5,6 +5,7 @@ ghost use Rattle.operating.specs.Log.{ran_to};
 ghost use Rattle.meaning.specs.Words.{node_of};
 ghost use Rattle.commanding.specs.Perform.{owner_word, done, performed};
 
+use commanding::answers::Done;
 use formula::cells::natural;
 use links::unlink::dispose;
 use making::{new_computed, new_effect, new_scope, new_signal};
@@ -14,13 +15,6 @@ use operations::writes::{add, set};
 use reads::read::read;
 use refusing::commands::Command;
 use values::Value;
-
-// The value returned, and how many effects ran.
-#[derive(Clone, Copy)]
-pub struct Done {
-    pub value: i64,
-    pub runs: u64,
-}
 
 // The node of a number that is known to be one.
 fn node_of(k: i64) -> u64

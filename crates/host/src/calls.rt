@@ -4,7 +4,7 @@ ghost use Rattle.operating.specs.Emptying.{emptied, emptying};
 ghost use Rattle.hosting.specs.Calls.{replied, called, call_in};
 ghost use Rattle.hosting.specs.Many.{why_number, many_replied, called_many, calls_in};
 
-use engine::command::command;
+use engine::command::{Answer, command};
 use operations::emptying::empty;
 use operations::log::number_word;
 use sequencing::steps::Why;
@@ -57,10 +57,9 @@ pub fn simmer_command(
     if reply.len() < REPLY {
         return NO_REPLY;
     }
-    let a = command(nodes, links, values, cells, log, words);
-    let code = a.code;
-    put_reply(reply, code, a.value, a.runs);
-    code
+    let a = Answer::from(command(nodes, links, values, cells, log, words));
+    put_reply(reply, a.code, a.value, a.runs);
+    a.code
 }
 
 // A series that stopped, as a number.

@@ -36,14 +36,14 @@ struct Tables<'a> {
 impl Tables<'_> {
     fn done(&mut self, task: Task) -> Answer {
         match task {
-            Task::Command => command(
+            Task::Command => Answer::from(command(
                 self.nodes,
                 self.links,
                 self.values,
                 self.cells,
                 self.log,
                 self.words,
-            ),
+            )),
             Task::Emptying => Answer {
                 code: empty(self.nodes, self.links, self.values, self.cells),
                 value: 0,

@@ -1,17 +1,17 @@
 // Rows 2 to 4 of the table: the command, and the nodes that it names.
-ghost use Rattle.std.specs.Prelude.{◌≡◌, ◌&&◌};
+ghost use Rattle.std.specs.Prelude.{◌≡◌};
 ghost use Rattle.meaning.specs.State.{readable};
 ghost use Rattle.meaning.specs.Words.{command_of};
 ghost use Rattle.meaning.specs.Refusals.{on, unknown, is_a, wrong_owner, wrong_node, is_gone, gone_node};
 ghost use Rattle.refusing.specs.Sight.{kind_of, nodes_alone};
-ghost use Rattle.refusing.specs.Asked.{taken, node_asked, wrong_named};
+ghost use Rattle.refusing.specs.Asked.{taken};
 
 use crate::asks::asks_of;
 use crate::commands::command_of;
 use formula::cells::natural;
 use primitive::rows::{COMPUTED, COUNT, GONE, KIND, NODE, SIGNAL};
 use primitive::words;
-use refusing::asks::Takes;
+use refusing::asks::{Asks, Takes};
 use refusing::commands::Command;
 
 // 2: unknown command code or wrong word count.
@@ -22,6 +22,7 @@ pub fn unknown(words: &[i64]) -> bool
 }
 
 // Whether a node of this kind word is taken.
+#[tactic(auto, using(refusing::proofs::NamingLaws::kind_signal))]
 fn takes_kind(t: Takes, kind: u64) -> bool
     ensures { result ≡ taken t (kind_of kind) }
 {
@@ -32,84 +33,63 @@ fn takes_kind(t: Takes, kind: u64) -> bool
     }
 }
 
+#[tactic(auto, using(refusing::proofs::Formulas::readable_kind), unfolding(trees::specs::Legal::read_kind))]
 fn readable_kind(kind: u64) -> bool
     ensures { result ≡ readable (kind_of kind) }
 {
-    if kind == SIGNAL {
-        return true;
-    }
-    kind == COMPUTED
+    kind == SIGNAL || kind == COMPUTED
 }
 
 // Whether n is the number of a node of a kind that is taken.
 fn is_a(nodes: &[u64], t: Takes, n: i64) -> bool
     ensures { result ≡ is_a (nodes_alone nodes.now) (taken t) n }
 {
-    let Some(k) = natural(n) else {
-        return false;
-    };
-    if k >= words::at(nodes, COUNT) {
-        return false;
+    match natural(n) {
+        Some(k) => k < words::at(nodes, COUNT) && takes_kind(t, words::get(nodes, NODE, k, KIND)),
+        None => false,
     }
-    takes_kind(t, words::get(nodes, NODE, k, KIND))
-}
-
-fn wrong_named(nodes: &[u64], named: bool, t: Takes, n: i64) -> bool
-    ensures { result ≡ wrong_named (nodes_alone nodes.now) (taken t) (node_asked named n) }
-{
-    if named {
-        return !is_a(nodes, t, n);
-    }
-    false
 }
 
 // -1 as owner means none.
 fn wrong_owner(nodes: &[u64], owner: i64) -> bool
     ensures { result ≡ wrong_owner (nodes_alone nodes.now) owner }
 {
-    if owner == -1 {
-        return false;
-    }
-    !is_a(nodes, Takes::Owners, owner)
+    owner != -1 && !is_a(nodes, Takes::Owners, owner)
 }
 
 // 3: node or owner number unknown, or of a kind the command doesn't take.
 pub fn wrong_node(nodes: &[u64], words: &[i64]) -> bool
     ensures { result ≡ on (command_of words.now) (wrong_node (nodes_alone nodes.now)) }
 {
-    let a = asks_of(words);
-    let t = a.takes;
-    if wrong_named(nodes, a.names, t, a.node) {
-        return true;
+    match asks_of(words) {
+        Asks::Names { node, takes, .. } => !is_a(nodes, takes, node),
+        Asks::Makes {
+            owner: Some(owner),
+            ..
+        } => wrong_owner(nodes, owner),
+        _ => false,
     }
-    wrong_owner(nodes, a.owner)
 }
 
 fn is_gone(nodes: &[u64], n: i64) -> bool
     ensures { result ≡ is_gone (nodes_alone nodes.now) n }
 {
-    let Some(k) = natural(n) else {
-        return false;
-    };
-    words::get(nodes, NODE, k, GONE) != 0
-}
-
-fn gone_named(nodes: &[u64], ends: bool, n: i64) -> bool
-    ensures { result ≡ (ends && is_gone (nodes_alone nodes.now) n) }
-{
-    if ends {
-        return is_gone(nodes, n);
+    match natural(n) {
+        Some(k) => words::get(nodes, NODE, k, GONE) != 0,
+        None => false,
     }
-    false
 }
 
 // 4: the node to dispose, or the owner, is gone.
 pub fn gone_node(nodes: &[u64], words: &[i64]) -> bool
     ensures { result ≡ on (command_of words.now) (gone_node (nodes_alone nodes.now)) }
 {
-    let a = asks_of(words);
-    if gone_named(nodes, a.ends, a.node) {
-        return true;
+    match asks_of(words) {
+        Asks::Names { node, ends, .. } => ends && is_gone(nodes, node),
+        Asks::Makes {
+            owner: Some(owner),
+            ..
+        } => is_gone(nodes, owner),
+        _ => false,
     }
-    is_gone(nodes, a.owner)
 }

@@ -15,7 +15,7 @@ use Rattle.meaning.specs.Words.{Command as Meant, make_signal, make_computed, ma
 use Rattle.refusing.specs.declared.commands.Command.{Command}
 use Rattle.refusing.specs.declared.commands.Command.TheVariants.{Signal, Computed, Effect, Scope, Set, Add, Read, Dispose, Start, End, Unknown}
 use Rattle.refusing.specs.Commands.{number_of, takes_words, only_if, command_by, brief, told}
-use Rattle.refusing.specs.Asked.{asked, from_or, cells_from}
+use Rattle.refusing.specs.Asked.{asked, from_asked, from_or, cells_from}
 
 -- what holds of each of the eleven holds of all
 pub each : (P : Command → Type 0) → ((k : ℤ) → P (Signal k)) → P Computed → ((o : ℤ) → P (Effect o)) → ((o : ℤ) → P (Scope o))
@@ -140,7 +140,7 @@ module _ (ws : List ℤ) {r : Option ℕ} (found : r ≡ natural_of (get_or ws 0
 record Kept (ws : List ℤ) (x : Option Meant) : Type 0 where
   same : x ≡ told (brief x) ws
   numbered : command_by (number_of (brief x)) (get_or ws 1 (pos 0)) (get_or ws 2 (pos 0)) ≡ brief x
-  inside : from_or (asked (brief x)).from (length ws) ≤ length ws
+  inside : from_or (from_asked (asked (brief x))) (length ws) ≤ length ws
 
 module _ (w : ℤ) where
   kept_none : (ws : List ℤ) → Kept ws None

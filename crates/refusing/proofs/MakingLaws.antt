@@ -1,5 +1,5 @@
 -- Rows 5 to 7, by what the code finds on its way. Assumes nothing.
-use Rattle.std.specs.Prelude.{Option, Some, None}
+use Rattle.std.specs.Prelude.{Option, Some, None, unwrap_or, is_some}
 use mathlib.Core.Path.{◌≡◌, refl, sym, ap, ap₂, ◌∙◌}
 use mathlib.Core.Bool.{Bool, true, false, not, ◌||◌}
 use mathlib.Core.List.{List, []}
@@ -27,23 +27,26 @@ use Rattle.refusing.specs.declared.commands.Command.{Command}
 use Rattle.refusing.specs.Sight.{kind_of, nodes_alone, sight_in}
 use Rattle.refusing.specs.Commands.{brief}
 use Rattle.refusing.specs.declared.asks.Asks.{Asks}
-use Rattle.refusing.specs.Asked.{asked, kind_asked, cells_asked, over, illegal, from_or, cells_from, formula_in}
+use Rattle.refusing.specs.declared.asks.Asks.TheVariants.{Names, Makes, Nothing}
+use Rattle.primitive.specs.declared.kinds.Kind.{Kind as Made}
+use Rattle.primitive.specs.declared.kinds.Kind.TheVariants as kind
+use Rattle.refusing.specs.Asked.{asked, kind_asked, owner_or, owner_asked, from_asked, cells_asked, over, illegal, from_or, cells_from, formula_in}
 use Rattle.refusing.proofs.CommandLaws.{each}
 use Rattle.refusing.proofs.AskLaws.{bad_row, high_row, room_row}
 use Rattle.refusing.proofs.Formulas.{legal_same, tree_size, tree_reads, tree_height}
 
 -- ---- where the cells begin
-pub from_none : (ws : List ℤ) → (asked (brief (command_of ws))).from ≡ 0 → length ws ≡ cells_from ws
+pub from_is : (ws : List ℤ) {a : Asks} → a ≡ asked (brief (command_of ws)) → from_or (from_asked a) (length ws) ≡ cells_from ws
 unfolding cells_from
-from_none ws e = rw e
+from_is ws told = ap (λ (x : Asks). from_or (from_asked x) (length ws)) told
 
-pub from_some : (ws : List ℤ) → ((asked (brief (command_of ws))).from ≡ 0 → ⊥) → (asked (brief (command_of ws))).from ≡ cells_from ws
-unfolding cells_from
-from_some ws h = go (asked (brief (command_of ws))).from h
-  where
-    go : (k : ℕ) → (k ≡ 0 → ⊥) → k ≡ from_or k (length ws)
-    go zero d = absurd (d refl)
-    go (suc k) d = refl
+module _ (ws : List ℤ) {a : Asks} (told : a ≡ asked (brief (command_of ws))) where
+  pub from_given : {r : ℕ} → r ≡ unwrap_or (from_asked a) (length ws) → r ≡ cells_from ws
+  from_given {r} e = e ∙ go (from_asked a) ∙ from_is ws told
+    where
+      go : (f : Option ℕ) → unwrap_or f (length ws) ≡ from_or f (length ws)
+      go None = refl
+      go (Some n) = refl
 
 -- the part of the words from there on
 pub part_is : (ws : List ℤ) {k : ℕ} → k ≡ cells_from ws → take (length ws - k) (drop k ws) ≡ formula_in ws
@@ -51,25 +54,43 @@ unfolding formula_in
 part_is ws {k} e = take_all (length ws - k) (drop k ws) (omega (arith, length-drop k ws)) ∙ ap (λ (n : ℕ). drop n ws) e
 
 -- by the record
-formula_by : (ws : List ℤ) (a : Asks) → a ≡ asked (brief (command_of ws)) → formula_in ws ≡ drop (from_or a.from (length ws)) ws
+formula_by : (ws : List ℤ) (a : Asks) → a ≡ asked (brief (command_of ws)) → formula_in ws ≡ drop (from_or (from_asked a) (length ws)) ws
 unfolding formula_in cells_from
-formula_by ws a told = ap (λ (x : Asks). drop (from_or x.from (length ws)) ws) (sym told)
+formula_by ws a told = ap (λ (x : Asks). drop (from_or (from_asked x) (length ws)) ws) (sym told)
+
+-- no new node
+pub makes_none : (a : Asks) → ((k : Made) (o : Option ℤ) (f : Option ℕ) → a ≡ Makes k o f → ⊥) → kind_asked a ≡ None
+makes_none (Names n t e) h = refl
+makes_none (Makes k o f) h = absurd (h k o f refl)
+makes_none Nothing h = refl
+
+from_none : (a : Asks) → ((k : Made) (o : Option ℤ) (f : Option ℕ) → a ≡ Makes k o f → ⊥) → from_asked a ≡ None
+from_none (Names n t e) h = refl
+from_none (Makes k o f) h = absurd (h k o f refl)
+from_none Nothing h = refl
 
 -- ---- 5
 module _ (nodes : List ℕ) (ws : List ℤ) where
-  no_cells : (k : ℕ) → k ≡ 0 → false ≡ illegal (nodes_alone nodes) (cells_asked k ws)
-  no_cells k e = rw e
+  some_cells : (f : Option ℕ) {r : Bool} → is_some f ≡ true → r ≡ legal_in nodes (drop (from_or f (length ws)) ws) → not r ≡ illegal (nodes_alone nodes) (cells_asked f ws)
+  some_cells None h e = cc
+  some_cells (Some k) h e = ap not (e ∙ legal_same nodes (drop k ws))
 
-  some_cells : (k : ℕ) {r : Bool} → (k ≡ 0 → ⊥) → r ≡ legal_in nodes (drop (from_or k (length ws)) ws) → not r ≡ illegal (nodes_alone nodes) (cells_asked k ws)
-  some_cells zero h e = absurd (h refl)
-  some_cells (suc k) h e = ap not (e ∙ legal_same nodes (drop (suc k) ws))
+  no_cells : (f : Option ℕ) → is_some f ≡ false → false ≡ illegal (nodes_alone nodes) (cells_asked f ws)
+  no_cells None h = refl
+  no_cells (Some k) h = cc
 
   module _ (a : Asks) (told : a ≡ asked (brief (command_of ws))) where
-    pub bad_none : a.from ≡ 0 → false ≡ on (command_of ws) (bad_formula (nodes_alone nodes))
-    bad_none e = no_cells a.from e ∙ bad_row (nodes_alone nodes) ws a told
+    pub bad_none : ((k : Made) (o : Option ℤ) (f : Option ℕ) → a ≡ Makes k o f → ⊥) → false ≡ on (command_of ws) (bad_formula (nodes_alone nodes))
+    bad_none h = ap (λ (f : Option ℕ). illegal (nodes_alone nodes) (cells_asked f ws)) (sym (from_none a h)) ∙ bad_row (nodes_alone nodes) ws a told
 
-    pub bad_some : {r : Bool} → (a.from ≡ 0 → ⊥) → r ≡ legal_in nodes (formula_in ws) → not r ≡ on (command_of ws) (bad_formula (nodes_alone nodes))
-    bad_some h e = some_cells a.from h (e ∙ ap (legal_in nodes) (formula_by ws a told)) ∙ bad_row (nodes_alone nodes) ws a told
+    module _ {k : Made} {o : Option ℤ} {f : Option ℕ} (makes : a ≡ Makes k o f) where
+      pub bad_some : {r : Bool} → is_some f ≡ true → r ≡ legal_in nodes (formula_in ws) → not r ≡ on (command_of ws) (bad_formula (nodes_alone nodes))
+      bad_some h e =
+          some_cells f h (e ∙ ap (legal_in nodes) (formula_by ws a told ∙ ap (λ (a : Asks). drop (from_or (from_asked a) (length ws)) ws) makes))
+          ∙ ap (λ (a : Asks). illegal (nodes_alone nodes) (cells_asked (from_asked a) ws)) (sym makes) ∙ bad_row (nodes_alone nodes) ws a told
+
+      pub bad_bare : is_some f ≡ false → false ≡ on (command_of ws) (bad_formula (nodes_alone nodes))
+      bad_bare h = no_cells f h ∙ ap (λ (a : Asks). illegal (nodes_alone nodes) (cells_asked (from_asked a) ws)) (sym makes) ∙ bad_row (nodes_alone nodes) ws a told
 
 -- ---- 6
 capped : (x : ℕ) → ltb most_height (min (suc most_height) x) ≡ ltb most_height x
@@ -100,43 +121,50 @@ module _ (nodes : List ℕ) where
 
   module _ (ws : List ℤ) where
     abbrev Over : Command → Bool
-    Over b = over (nodes_alone nodes) (kind_asked (asked b).makes) (tree_in (cells_asked (asked b).from ws)) (owner_of (asked b).owner)
+    Over b = over (nodes_alone nodes) (kind_asked (asked b)) (tree_in (cells_asked (from_asked (asked b)) ws)) (owner_of (owner_asked (asked b)))
 
-    over_computed : (b : Command) → (asked b).makes ≡ 2 → illegal (nodes_alone nodes) (cells_asked (asked b).from ws) ≡ false
-        → ltb most_height (height_in nodes (drop (from_or (asked b).from (length ws)) ws)) ≡ Over b
+    abbrev cells_of_b : Command → List ℤ
+    cells_of_b b = drop (from_or (from_asked (asked b)) (length ws)) ws
+
+    over_computed : (b : Command) {k : Made} {o : Option ℤ} {f : Option ℕ} → asked b ≡ Makes k o f → k ≡ kind.Computed → illegal (nodes_alone nodes) (cells_asked (from_asked (asked b)) ws) ≡ false
+        → ltb most_height (height_in nodes (cells_of_b b)) ≡ Over b
     unfolding asked kind_of
-    over_computed =
+    over_computed b {k} {o} {f} =
         each
-        (λ (b : Command). (asked b).makes ≡ 2 → illegal (nodes_alone nodes) (cells_asked (asked b).from ws) ≡ false
-        → ltb most_height (height_in nodes (drop (from_or (asked b).from (length ws)) ws)) ≡ Over b)
-        (λ k m. absurd (omega arith)) (λ m l. ap (ltb most_height) (tree_height nodes (drop 1 ws) l)) (λ o m. absurd (omega arith)) (λ o m. absurd (omega arith))
-        (λ n k m. absurd (omega arith)) (λ n k m. absurd (omega arith)) (λ n m. absurd (omega arith)) (λ n m. absurd (omega arith))
-        (λ m. absurd (omega arith)) (λ m. absurd (omega arith)) (λ m. absurd (omega arith))
+        (λ (b : Command). asked b ≡ Makes k o f → k ≡ kind.Computed → illegal (nodes_alone nodes) (cells_asked (from_asked (asked b)) ws) ≡ false
+        → ltb most_height (height_in nodes (cells_of_b b)) ≡ Over b)
+        (λ w m e. cc) (λ m e l. ap (ltb most_height) (tree_height nodes (drop 1 ws) l)) (λ w m e. cc) (λ w m e. cc)
+        (λ n k m. cc) (λ n k m. cc) (λ n m. cc) (λ n m. cc) (λ m. cc) (λ m. cc) (λ m. cc) b
 
-    over_other : (b : Command) → ((asked b).makes ≡ 2 → ⊥) → ltb most_owner_depth (depth_under height (owner_of (asked b).owner)) ≡ Over b
+    abbrev Deep : ℤ → Bool
+    Deep z = ltb most_owner_depth (depth_under height (owner_of z))
+
+    over_other : (b : Command) {k : Made} {o : Option ℤ} {f : Option ℕ} → asked b ≡ Makes k o f → (k ≡ kind.Computed → ⊥) → Deep (owner_or o) ≡ Over b
     unfolding asked kind_of
-    over_other =
-        each (λ (b : Command). ((asked b).makes ≡ 2 → ⊥) → ltb most_owner_depth (depth_under height (owner_of (asked b).owner)) ≡ Over b)
-        (λ k m. refl) (λ m. absurd (m refl)) (λ o m. refl) (λ o m. refl) (λ n k m. refl) (λ n k m. refl) (λ n m. refl) (λ n m. refl) (λ m. refl) (λ m. refl) (λ m. refl)
+    over_other b {k} {o} {f} =
+        each (λ (b : Command). asked b ≡ Makes k o f → (k ≡ kind.Computed → ⊥) → Deep (owner_or o) ≡ Over b)
+        (λ w m h. ap Deep (sym (ap owner_asked m))) (λ m h. absurd (h cc)) (λ w m h. ap Deep (sym (ap owner_asked m))) (λ w m h. ap Deep (sym (ap owner_asked m)))
+        (λ n k m. cc) (λ n k m. cc) (λ n m. cc) (λ n m. cc) (λ m. cc) (λ m. cc) (λ m. cc) b
 
     module _ (a : Asks) (told : a ≡ asked (brief (command_of ws))) where
       b : Command
       b = brief (command_of ws)
 
-      pub high_computed : {h : ℕ} → a.makes ≡ 2 → on (command_of ws) (bad_formula (nodes_alone nodes)) ≡ false
+      pub high_computed : {h : ℕ} {k : Made} {o : Option ℤ} {f : Option ℕ} → a ≡ Makes k o f → k ≡ kind.Computed → on (command_of ws) (bad_formula (nodes_alone nodes)) ≡ false
           → h ≡ min (suc most_height) (height_in nodes (formula_in ws)) → ltb most_height h ≡ on (command_of ws) (too_high (nodes_alone nodes))
       unfolding b
-      high_computed m bad e =
+      high_computed m c bad e =
           ap (ltb most_height) e ∙ capped (height_in nodes (formula_in ws)) ∙ ap (λ (cs : List ℤ). ltb most_height (height_in nodes cs)) (formula_by ws (asked b) refl)
-          ∙ over_computed b (sym (ap (λ (x : Asks). x.makes) told) ∙ m) (bad_row (nodes_alone nodes) ws (asked b) refl ∙ bad)
+          ∙ over_computed b (sym told ∙ m) c (bad_row (nodes_alone nodes) ws (asked b) refl ∙ bad)
           ∙ high_row (nodes_alone nodes) ws (asked b) refl
 
-      pub high_other : {r : Bool} → (a.makes ≡ 2 → ⊥) → r ≡ ltb most_owner_depth (depth_under height (owner_of a.owner))
+      pub high_other : {r : Bool} {k : Made} {o : Option ℤ} {f : Option ℕ} → a ≡ Makes k o f → (k ≡ kind.Computed → ⊥) → r ≡ Deep (owner_or o)
           → r ≡ on (command_of ws) (too_high (nodes_alone nodes))
       unfolding b
-      high_other m e =
-          e ∙ ap (λ (x : Asks). ltb most_owner_depth (depth_under height (owner_of x.owner))) told
-          ∙ over_other b (λ z. m (ap (λ (x : Asks). x.makes) told ∙ z)) ∙ high_row (nodes_alone nodes) ws (asked b) refl
+      high_other m h e = e ∙ over_other b (sym told ∙ m) h ∙ high_row (nodes_alone nodes) ws (asked b) refl
+
+      pub high_none : ((k : Made) (o : Option ℤ) (f : Option ℕ) → a ≡ Makes k o f → ⊥) → false ≡ on (command_of ws) (too_high (nodes_alone nodes))
+      high_none h = ap (λ (k : Option Kind). over (nodes_alone nodes) k (tree_in (cells_asked (from_asked a) ws)) (owner_of (owner_asked a))) (sym (makes_none a h)) ∙ high_row (nodes_alone nodes) ws a told
 
 -- ---- 7
 -- a sum that stops far above a capacity passes it where the plain sum does
@@ -167,10 +195,7 @@ module _ (nodes links : List ℕ) (cells ws : List ℤ) where
   v = sight_in nodes links cells 0
 
   abbrev Full : Command → Bool
-  Full b = full v (kind_asked (asked b).makes) (tree_in (cells_asked (asked b).from ws)) (owner_of (asked b).owner)
-
-  full_none : (b : Command) → (asked b).makes ≡ 0 → false ≡ Full b
-  full_none b e = ap (λ (k : ℕ). full v (kind_asked k) (tree_in (cells_asked (asked b).from ws)) (owner_of (asked b).owner)) (sym e)
+  Full b = full v (kind_asked (asked b)) (tree_in (cells_asked (from_asked (asked b)) ws)) (owner_of (owner_asked (asked b)))
 
   -- the three ways to lack room: for n cells and m slots
   abbrev Lacks : ℕ → ℕ → Bool
@@ -180,7 +205,7 @@ module _ (nodes links : List ℕ) (cells ws : List ℤ) where
   lacks k t o e f = ap₂ Lacks e f
 
   abbrev cells_in : Command → List ℤ
-  cells_in b = drop (from_or (asked b).from (length ws)) ws
+  cells_in b = drop (from_or (from_asked (asked b)) (length ws)) ws
 
   none_left : {cs : List ℤ} → cs ≡ [] → length cs / 2 ≡ 0
   none_left e = ap (λ (x : List ℤ). length x / 2) e
@@ -196,18 +221,18 @@ module _ (nodes links : List ℕ) (cells ws : List ℤ) where
       lacks k (formula_of (drop from ws)) o (sym (n ∙ tree_size nodes (drop from ws) l))
       (sym (r ∙ ap (λ (x : ℕ). 2 * x + owned_link o) (tree_reads nodes (drop from ws) l)))
 
-  full_some : (b : Command) → ((asked b).makes ≡ 0 → ⊥) → illegal (nodes_alone nodes) (cells_asked (asked b).from ws) ≡ false
-      → Lacks (length (cells_in b) / 2) (2 * read_cells (cells_in b) + owned_link (owner_of (asked b).owner)) ≡ Full b
+  full_some : (b : Command) {k : Made} {o : Option ℤ} {f : Option ℕ} → asked b ≡ Makes k o f → illegal (nodes_alone nodes) (cells_asked (from_asked (asked b)) ws) ≡ false
+      → Lacks (length (cells_in b) / 2) (2 * read_cells (cells_in b) + owned_link (owner_of (owner_asked (asked b)))) ≡ Full b
   unfolding asked kind_of
-  full_some =
+  full_some b {k} {o} {f} =
       each
-      (λ (b : Command). ((asked b).makes ≡ 0 → ⊥) → illegal (nodes_alone nodes) (cells_asked (asked b).from ws) ≡ false
-      → Lacks (length (cells_in b) / 2) (2 * read_cells (cells_in b) + owned_link (owner_of (asked b).owner)) ≡ Full b)
+      (λ (b : Command). asked b ≡ Makes k o f → illegal (nodes_alone nodes) (cells_asked (from_asked (asked b)) ws) ≡ false
+      → Lacks (length (cells_in b) / 2) (2 * read_cells (cells_in b) + owned_link (owner_of (owner_asked (asked b)))) ≡ Full b)
       (λ k h l. lacks signal (constant (pos 0)) None (none_left (all_dropped ws)) (none_read None (all_dropped ws)))
       (λ h l. with_cells computed 1 None refl refl l)
       (λ o h l. with_cells effect 2 (owner_of o) refl refl l)
       (λ o h l. lacks scope (constant (pos 0)) (owner_of o) (none_left (all_dropped ws)) (none_read (owner_of o) (all_dropped ws)))
-      (λ n k h. absurd (h refl)) (λ n k h. absurd (h refl)) (λ n h. absurd (h refl)) (λ n h. absurd (h refl)) (λ h. absurd (h refl)) (λ h. absurd (h refl)) (λ h. absurd (h refl))
+      (λ n k h. cc) (λ n k h. cc) (λ n h. cc) (λ n h. cc) (λ h. cc) (λ h. cc) (λ h. cc) b
 
   -- the cells and the slots that a new node with this owner takes
   abbrev cells_for : ℕ
@@ -217,14 +242,14 @@ module _ (nodes links : List ℕ) (cells ws : List ℤ) where
   slots_for o = 2 * read_cells (formula_in ws) + owned_link (owner_of o)
 
   module _ (a : Asks) (told : a ≡ asked (brief (command_of ws))) where
-    pub room_none : a.makes ≡ 0 → false ≡ on (command_of ws) (no_room v)
-    room_none e = full_none (brief (command_of ws)) (sym (ap (λ (x : Asks). x.makes) told) ∙ e) ∙ room_row v ws (asked (brief (command_of ws))) refl
+    pub room_none : ((k : Made) (o : Option ℤ) (f : Option ℕ) → a ≡ Makes k o f → ⊥) → false ≡ on (command_of ws) (no_room v)
+    room_none h = ap (λ (k : Option Kind). full v k (tree_in (cells_asked (from_asked a) ws)) (owner_of (owner_asked a))) (sym (makes_none a h)) ∙ room_row v ws a told
 
-    module _ (makes : a.makes ≡ 0 → ⊥) (good : on (command_of ws) (bad_formula (nodes_alone nodes)) ≡ false) where
-      room_some : Lacks cells_for (slots_for a.owner) ≡ on (command_of ws) (no_room v)
+    module _ {k : Made} {own : Option ℤ} {f : Option ℕ} (makes : a ≡ Makes k own f) (good : on (command_of ws) (bad_formula (nodes_alone nodes)) ≡ false) where
+      room_some : Lacks cells_for (slots_for (owner_or own)) ≡ on (command_of ws) (no_room v)
       room_some =
-          ap₂ (λ (cs : List ℤ) (o : ℤ). Lacks (length cs / 2) (2 * read_cells cs + owned_link (owner_of o))) (formula_by ws (asked (brief (command_of ws))) refl) (ap (λ (x : Asks). x.owner) told)
-          ∙ full_some (brief (command_of ws)) (λ z. makes (ap (λ (x : Asks). x.makes) told ∙ z)) (bad_row (nodes_alone nodes) ws (asked (brief (command_of ws))) refl ∙ good)
+          ap₂ (λ (cs : List ℤ) (o : ℤ). Lacks (length cs / 2) (2 * read_cells cs + owned_link (owner_of o))) (formula_by ws (asked (brief (command_of ws))) refl) (sym (ap owner_asked makes) ∙ ap owner_asked told)
+          ∙ full_some (brief (command_of ws)) (sym told ∙ makes) (bad_row (nodes_alone nodes) ws (asked (brief (command_of ws))) refl ∙ good)
           ∙ room_row v ws (asked (brief (command_of ws))) refl
 
       -- the three ways, tried in order
@@ -232,27 +257,27 @@ module _ (nodes links : List ℕ) (cells ws : List ℤ) where
         pub lacks_nodes : x ≤ y → true ≡ on (command_of ws) (no_room v)
         lacks_nodes h = lack ∙ room_some
           where
-            lack : true ≡ Lacks cells_for (slots_for a.owner)
+            lack : true ≡ Lacks cells_for (slots_for (owner_or own))
             lack = rw (le-leb (node_room nodes) (get_or nodes COUNT 0) (omega arith))
 
         module _ (h : y < x) {p u s : ℕ} (room : p ≡ cell_room cells) (used : u ≡ get_or nodes USED 0) (sum : s ≡ min top (u + cells_for)) where
           pub lacks_cells : p < s → true ≡ on (command_of ws) (no_room v)
           lacks_cells l = lack ∙ room_some
             where
-              lack : true ≡ Lacks cells_for (slots_for a.owner)
+              lack : true ≡ Lacks cells_for (slots_for (owner_or own))
               lack =
                   let d : get_or nodes COUNT 0 < node_room nodes = omega arith in
                   let e : cell_room cells < get_or nodes USED 0 + cells_for = omega arith in
                   rw (lt-leb (node_room nodes) (get_or nodes COUNT 0) d, lt-ltb (cell_room cells) (get_or nodes USED 0 + cells_for) e)
 
-          pub lacks_slots : s ≤ p → p < top → {q o z t : ℕ} → q ≡ slot_room links → q < top → o ≡ reserve_in nodes → z ≡ min top (slots_for a.owner) → t ≡ min top (o + z)
+          pub lacks_slots : s ≤ p → p < top → {q o z t : ℕ} → q ≡ slot_room links → q < top → o ≡ reserve_in nodes → z ≡ min top (slots_for (owner_or own)) → t ≡ min top (o + z)
               → ltb q t ≡ on (command_of ws) (no_room v)
           lacks_slots l low {q} {o} {z} {t} slots far reserve new all = lack ∙ room_some
             where
-              lack : ltb q t ≡ Lacks cells_for (slots_for a.owner)
+              lack : ltb q t ≡ Lacks cells_for (slots_for (owner_or own))
               lack =
                   let d : get_or nodes COUNT 0 < node_room nodes = omega arith in
                   let e : get_or nodes USED 0 + cells_for ≤ cell_room cells = omega arith in
-                  let f : t ≡ min top (reserve_in nodes + slots_for a.owner) = omega arith in
+                  let f : t ≡ min top (reserve_in nodes + slots_for (owner_or own)) = omega arith in
                   rw (lt-leb (node_room nodes) (get_or nodes COUNT 0) d, le-ltb (cell_room cells) (get_or nodes USED 0 + cells_for) e)
-                  (ap₂ ltb slots f ∙ stopped (slot_room links) (reserve_in nodes + slots_for a.owner) (omega arith))
+                  (ap₂ ltb slots f ∙ stopped (slot_room links) (reserve_in nodes + slots_for (owner_or own)) (omega arith))

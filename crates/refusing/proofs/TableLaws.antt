@@ -1,14 +1,59 @@
 -- The rows in number order: the first that holds is given. Assumes nothing.
-use mathlib.Core.Path.{◌≡◌, refl, sym, ◌∙◌}
+use Rattle.std.specs.Prelude.{Option, None, Some}
+use mathlib.Core.Path.{◌≡◌, refl, sym, ap, ◌∙◌}
 use mathlib.Core.Bool.{Bool, true, false}
 use mathlib.Core.List.{List, [], ◌∷◌}
-use Prim.Native.Nat.{ℕ}
+use Prim.Native.Nat.{ℕ, zero, suc}
 use native.Mathlib.Omega.{arith}
 use lib.IntN.{ℤ}
 use Rattle.meaning.specs.Words.{command_of}
 use Rattle.meaning.specs.Refusals.{first, table, refusal}
+use Rattle.refusing.specs.declared.refusal.Refusal.{Refusal}
+use Rattle.refusing.specs.declared.refusal.Refusal.TheVariants.{WrongTables, UnknownCommand, WrongNode, GoneNode, BadFormula, TooHigh, NoRoom, WrongDepth, FewRows}
+use Rattle.refusing.specs.Numbers.{refused_as}
 use Rattle.refusing.specs.Sight.{sight_in, rows_in}
 use Rattle.refusing.proofs.Sights.{wrong_sees, gone_sees, bad_sees, high_sees, room_sees, depth_sees, rows_see}
+
+-- no refusal has the number 0
+pub number_some : (r : Refusal) → refused_as (Some r) ≡ 0 → ⊥
+number_some WrongTables e = absurd (omega arith)
+number_some UnknownCommand e = absurd (omega arith)
+number_some WrongNode e = absurd (omega arith)
+number_some GoneNode e = absurd (omega arith)
+number_some BadFormula e = absurd (omega arith)
+number_some TooHigh e = absurd (omega arith)
+number_some NoRoom e = absurd (omega arith)
+number_some WrongDepth e = absurd (omega arith)
+number_some FewRows e = absurd (omega arith)
+
+-- a number has one refusal
+refusal_of : ℕ → Option Refusal
+refusal_of zero = None
+refusal_of (suc zero) = Some WrongTables
+refusal_of (suc (suc zero)) = Some UnknownCommand
+refusal_of (suc (suc (suc zero))) = Some WrongNode
+refusal_of (suc (suc (suc (suc zero)))) = Some GoneNode
+refusal_of (suc (suc (suc (suc (suc zero))))) = Some BadFormula
+refusal_of (suc (suc (suc (suc (suc (suc zero)))))) = Some TooHigh
+refusal_of (suc (suc (suc (suc (suc (suc (suc zero))))))) = Some NoRoom
+refusal_of (suc (suc (suc (suc (suc (suc (suc (suc zero)))))))) = Some WrongDepth
+refusal_of (suc (suc (suc (suc (suc (suc (suc (suc (suc n))))))))) = Some FewRows
+
+number_back : (r : Option Refusal) → refusal_of (refused_as r) ≡ r
+unfolding refusal_of
+number_back None = refl
+number_back (Some WrongTables) = refl
+number_back (Some UnknownCommand) = refl
+number_back (Some WrongNode) = refl
+number_back (Some GoneNode) = refl
+number_back (Some BadFormula) = refl
+number_back (Some TooHigh) = refl
+number_back (Some NoRoom) = refl
+number_back (Some WrongDepth) = refl
+number_back (Some FewRows) = refl
+
+pub same_refusal : (r s : Option Refusal) → refused_as r ≡ refused_as s → r ≡ s
+same_refusal r s e = sym (number_back r) ∙ ap refusal_of e ∙ number_back s
 
 -- ---- rows 5 to 7 by themselves
 module _ (a b c : Bool) where

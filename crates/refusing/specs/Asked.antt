@@ -1,6 +1,7 @@
--- What a command asks, as the code's record tells it, beside `asks_of` of `meaning`.
-use Rattle.std.specs.Prelude.{Bool, true, false, not, cond, List, ℕ, zero, suc, eqb, leb, ltb, ℤ, pos, negsuc, length, drop, Option, None, Some}
-use Rattle.primitive.specs.Words.{SIGNAL, COMPUTED, EFFECT, SCOPE}
+-- What a command asks, as the code's enum tells it, beside `asks_of` of `meaning`.
+use Rattle.std.specs.Prelude.{Bool, true, false, not, cond, List, ℕ, eqb, leb, ltb, ℤ, negsuc, length, drop, Option, None, Some}
+use Rattle.primitive.specs.Kinds.{kind_word}
+use Rattle.primitive.specs.declared.kinds.Kind.TheVariants as kind
 use Rattle.trees.specs.Trees.{Tree}
 use Rattle.meaning.specs.State.{Kind, readable}
 use Rattle.meaning.specs.Words.{Command as Meant, command_of}
@@ -11,6 +12,7 @@ use Rattle.refusing.specs.declared.commands.Command.TheVariants.{Signal, Compute
 use Rattle.refusing.specs.declared.asks.Takes.{Takes}
 use Rattle.refusing.specs.declared.asks.Takes.TheVariants.{Signals, Readable, Owners}
 use Rattle.refusing.specs.declared.asks.Asks.{Asks}
+use Rattle.refusing.specs.declared.asks.Asks.TheVariants.{Names, Makes, Nothing}
 use Rattle.refusing.specs.Sight.{kind_of}
 use Rattle.refusing.specs.Commands.{brief}
 
@@ -20,38 +22,59 @@ taken Signals k = a_signal k
 taken Readable k = readable k
 taken Owners k = an_owner k
 
-abbrev pub names_one : Takes → ℤ → Bool → Asks
-names_one t n d = record { names = true; node = n; takes = t; ends = d; makes = 0; owner = negsuc 0; from = 0 }
-
-abbrev pub makes_one : ℕ → ℤ → ℕ → Asks
-makes_one k o from = record { names = false; node = pos 0; takes = Readable; ends = false; makes = k; owner = o; from = from }
-
 -- set and add: signals; read: signals and computeds; dispose: effects and scopes
 unfoldable pub asked : Command → Asks
-asked (Signal k) = makes_one SIGNAL (negsuc 0) 0
-asked Computed = makes_one COMPUTED (negsuc 0) 1
-asked (Effect o) = makes_one EFFECT o 2
-asked (Scope o) = makes_one SCOPE o 0
-asked (Set n k) = names_one Signals n false
-asked (Add n k) = names_one Signals n false
-asked (Read n) = names_one Readable n false
-asked (Dispose n) = names_one Owners n true
-asked Start = makes_one 0 (negsuc 0) 0
-asked End = makes_one 0 (negsuc 0) 0
-asked Unknown = makes_one 0 (negsuc 0) 0
+asked (Signal k) = Makes kind.Signal None None
+asked Computed = Makes kind.Computed None (Some 1)
+asked (Effect o) = Makes kind.Effect (Some o) (Some 2)
+asked (Scope o) = Makes kind.Scope (Some o) None
+asked (Set n k) = Names n Signals false
+asked (Add n k) = Names n Signals false
+asked (Read n) = Names n Readable false
+asked (Dispose n) = Names n Owners true
+asked Start = Nothing
+asked End = Nothing
+asked Unknown = Nothing
 
 -- ---- beside the record of `meaning`
-abbrev pub node_asked : Bool → ℤ → Option ℤ
-node_asked true n = Some n
-node_asked false n = None
+abbrev pub node_asked : Asks → Option ℤ
+node_asked (Names n t e) = Some n
+node_asked (Makes k o f) = None
+node_asked Nothing = None
 
-abbrev pub kind_asked : ℕ → Option Kind
-kind_asked zero = None
-kind_asked (suc k) = Some (kind_of (suc k))
+abbrev pub takes_asked : Asks → Kind → Bool
+takes_asked (Names n t e) = taken t
+takes_asked (Makes k o f) = readable
+takes_asked Nothing = readable
 
-abbrev pub cells_asked : ℕ → List ℤ → Option (List ℤ)
-cells_asked zero ws = None
-cells_asked (suc n) ws = Some (drop (suc n) ws)
+abbrev pub ends_asked : Asks → Bool
+ends_asked (Names n t e) = e
+ends_asked (Makes k o f) = false
+ends_asked Nothing = false
+
+abbrev pub kind_asked : Asks → Option Kind
+kind_asked (Names n t e) = None
+kind_asked (Makes k o f) = Some (kind_of (kind_word k))
+kind_asked Nothing = None
+
+-- the owner, -1 if there is none
+abbrev pub owner_or : Option ℤ → ℤ
+owner_or None = negsuc 0
+owner_or (Some o) = o
+
+abbrev pub owner_asked : Asks → ℤ
+owner_asked (Names n t e) = negsuc 0
+owner_asked (Makes k o f) = owner_or o
+owner_asked Nothing = negsuc 0
+
+abbrev pub from_asked : Asks → Option ℕ
+from_asked (Names n t e) = None
+from_asked (Makes k o f) = f
+from_asked Nothing = None
+
+abbrev pub cells_asked : Option ℕ → List ℤ → Option (List ℤ)
+cells_asked None ws = None
+cells_asked (Some n) ws = Some (drop n ws)
 
 -- an unknown command asks nothing
 abbrev pub asks_about : Option Meant → Meanings
@@ -61,12 +84,12 @@ asks_about (Some c) = asks_of c
 -- depths and rows are told by the command itself
 abbrev pub seen : Asks → Option Meant → List ℤ → Meanings
 seen a c ws = record {
-  node = node_asked a.names a.node;
-  takes = taken a.takes;
-  ends = a.ends;
-  makes = kind_asked a.makes;
-  owner = a.owner;
-  cells = cells_asked a.from ws;
+  node = node_asked a;
+  takes = takes_asked a;
+  ends = ends_asked a;
+  makes = kind_asked a;
+  owner = owner_asked a;
+  cells = cells_asked (from_asked a) ws;
   barred = (asks_about c).barred;
   rows = (asks_about c).rows;
 }
@@ -82,12 +105,12 @@ abbrev pub illegal : Sight → Option (List ℤ) → Bool
 illegal v o = on o (λ cs. not (legal_cells v cs))
 
 -- where the cells of the formula begin; at the end of the words if there is none
-abbrev pub from_or : ℕ → ℕ → ℕ
-from_or zero n = n
-from_or (suc k) n = suc k
+abbrev pub from_or : Option ℕ → ℕ → ℕ
+from_or None n = n
+from_or (Some k) n = k
 
 unfoldable pub cells_from : List ℤ → ℕ
-cells_from ws = from_or (asked (brief (command_of ws))).from (length ws)
+cells_from ws = from_or (from_asked (asked (brief (command_of ws)))) (length ws)
 
 -- the cells themselves
 unfoldable pub formula_in : List ℤ → List ℤ

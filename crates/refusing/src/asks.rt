@@ -1,23 +1,27 @@
+use primitive::kinds::Kind;
+
 // The kinds of node that a command takes.
-#[derive(Clone, Copy)]
+#[derive(Clone, Copy, PartialEq, Eq)]
 pub enum Takes {
     Signals,
     Readable,
     Owners,
 }
 
-#[derive(Clone, Copy)]
-pub struct Asks {
-    // whether it names a node, which, and of what kinds
-    pub names: bool,
-    pub node: i64,
-    pub takes: Takes,
-    // to dispose it
-    pub ends: bool,
-    // the kind of the new node, 0 if there is none
-    pub makes: u64,
-    // its owner, -1 if it has none
-    pub owner: i64,
-    // where the cells of its formula begin in the words, 0 if it has none
-    pub from: usize,
+// What a command asks of the nodes.
+#[derive(Clone, Copy, PartialEq, Eq)]
+pub enum Asks {
+    // one that there is, of these kinds; to dispose it or not
+    Names {
+        node: i64,
+        takes: Takes,
+        ends: bool,
+    },
+    // a new one of this kind. owner: of a kind that has one, where -1 is none. from: where the cells of its formula begin in the words.
+    Makes {
+        kind: Kind,
+        owner: Option<i64>,
+        from: Option<usize>,
+    },
+    Nothing,
 }

@@ -8,7 +8,7 @@ ghost use Rattle.std.specs.Prelude.{◌≡◌};
 ghost use Rattle.script.specs.Turns.{tables, turned, turn_in};
 
 use crate::turns::Turn;
-use engine::command::command;
+use engine::command::{Answer, command};
 use spelling::lines::Found;
 use text::answers::{put_answer, put_unreadable};
 use text::lines::pair;
@@ -32,7 +32,7 @@ pub fn turn(
         Found::Short if window.is_empty() => Turn::Ended(0),
         Found::Short | Found::Unreadable => Turn::Ended(put_unreadable(out)),
         Found::Pair { behind, count } => {
-            let a = command(nodes, links, values, cells, log, &words[..count]);
+            let a = Answer::from(command(nodes, links, values, cells, log, &words[..count]));
             Turn::Answered {
                 used: window.len() - behind,
                 bytes: put_answer(out, a.code, a.value, a.runs, log),

@@ -4,16 +4,14 @@ ghost use Rattle.commanding.specs.Command.{command_on};
 ghost use Rattle.sequencing.specs.Steps.{written, stepped, step_by};
 
 use crate::list::head;
-use engine::command::command_on;
+use engine::command::{Answer, command_on};
 use operations::log::number_word;
+use refusing::refusal::Refusal;
 use sequencing::list::Next;
 use sequencing::steps::{Step, Why};
 
 // Words of an answer: code, value, number of runs.
 pub const ANSWER: usize = 3;
-
-// The refusal of a command that wants more rows of the log.
-const SHORT_LOG: u64 = 9;
 
 // An answer at the front of those that are left.
 fn put_answer(answers: &mut [i64], code: u64, value: i64, runs: u64)
@@ -50,14 +48,14 @@ pub fn one(
                 return Step::Stopped(Why::Answers);
             }
             let end = n + 1;
-            let a = command_on(nodes, links, values, cells, log, &list[1..end], formed);
-            let code = a.code;
-            if code == SHORT_LOG {
+            let done = command_on(nodes, links, values, cells, log, &list[1..end], formed);
+            let a = Answer::from(done);
+            let few = u64::from(Refusal::FewRows);
+            if a.code == few {
                 return Step::Stopped(Why::Rows);
             }
-            let runs = a.runs;
-            put_answer(answers, code, a.value, runs);
-            Step::Done(end, runs as usize)
+            put_answer(answers, a.code, a.value, a.runs);
+            Step::Done(end, a.runs as usize)
         }
     }
 }

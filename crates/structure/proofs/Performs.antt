@@ -14,7 +14,7 @@ use Rattle.trees.specs.Trees.{Tree, constant, written, names}
 use Rattle.linking.specs.Table.{tab}
 use Rattle.reading.specs.Tables.{State}
 use Rattle.refusing.specs.Commands.{brief, told}
-use Rattle.refusing.specs.Asked.{asked, from_or, cells_from, formula_in}
+use Rattle.refusing.specs.Asked.{asked, from_asked, from_or, cells_from, formula_in}
 use Rattle.reading.specs.Read.{read_of as readIn}
 use Rattle.refusing.proofs.CommandLaws.{told_is}
 use Rattle.operating.specs.Log.{ran_to, number_word}
@@ -64,12 +64,12 @@ cells_in (Some batch_end) = []
 computed_cells : (ws cs : List ℤ) → command_of ws ≡ Some (make_computed cs) → formula_in ws ≡ cs
 unfolding formula_in cells_from brief asked told cells_in
 computed_cells ws cs e =
-    ap (λ (c : Option Command). drop (from_or (asked (brief c)).from (length ws)) ws) e ∙ sym (ap cells_in (sym e ∙ told_is ws ∙ ap (λ (c : Option Command). told (brief c) ws) e))
+    ap (λ (c : Option Command). drop (from_or (from_asked (asked (brief c))) (length ws)) ws) e ∙ sym (ap cells_in (sym e ∙ told_is ws ∙ ap (λ (c : Option Command). told (brief c) ws) e))
 
 effect_cells : (ws cs : List ℤ) (o : ℤ) → command_of ws ≡ Some (make_effect o cs) → formula_in ws ≡ cs
 unfolding formula_in cells_from brief asked told cells_in
 effect_cells ws cs o e =
-    ap (λ (c : Option Command). drop (from_or (asked (brief c)).from (length ws)) ws) e ∙ sym (ap cells_in (sym e ∙ told_is ws ∙ ap (λ (c : Option Command). told (brief c) ws) e))
+    ap (λ (c : Option Command). drop (from_or (from_asked (asked (brief c))) (length ws)) ws) e ∙ sym (ap cells_in (sym e ∙ told_is ws ∙ ap (λ (c : Option Command). told (brief c) ws) e))
 
 -- legal cells write their formula out
 legal_written : (v : Sight) (cs : List ℤ) → not (legal_cells v cs) ≡ false → cs ≡ written (formula_of cs)

@@ -1,6 +1,7 @@
 -- The promise of each public function of `verdicts` has one answer. Assumes nothing.
 use mathlib.Core.Path.{refl, sym, ◌∙◌}
 use Rattle.tight.specs.OneAnswer.{OneAnswer}
+use Rattle.refusing.proofs.TableLaws.{same_refusal}
 use Rattle.verdicts.proofs.batching.wrong_depth.Kinds as batching-wrong-depth-kinds
 use Rattle.verdicts.proofs.batching.wrong_depth.Reads as batching-wrong-depth
 use Rattle.verdicts.proofs.batching.few_rows.Kinds as batching-few-rows-kinds
@@ -22,7 +23,7 @@ pub one_making_bad_formula : OneAnswer making-bad-formula-kinds.ps making-bad-fo
 one_making_bad_formula κs a x y v w p q = (p ∙ sym q, refl)
 
 pub one_making_making : OneAnswer making-making-kinds.ps making-making-kinds.r making-making.Learnt
-one_making_making κs a x y v w p q = (p ∙ sym q, refl)
+one_making_making κs a x y v w p q = (same_refusal x y (p ∙ sym q), refl)
 
 pub one_table_refusal : OneAnswer table-refusal-kinds.ps table-refusal-kinds.r table-refusal.Learnt
-one_table_refusal κs a x y v w p q = (p ∙ sym q, refl)
+one_table_refusal κs a x y v w p q = (same_refusal x y (p ∙ sym q), refl)

@@ -7,7 +7,10 @@ use borrow.Fn.Kinds.{Dens, ended_of}
 use Rattle.operating.specs.Emptying.{emptied, emptying}
 use Rattle.operations.proofs.emptying.empty.Kinds as empty-kinds
 use Rattle.operations.proofs.emptying.empty.Reads as empty
-use Rattle.engine.specs.declared.command.Answer.{Answer}
+use Rattle.std.specs.Prelude.{Result}
+use Rattle.refusing.specs.declared.refusal.Refusal.{Refusal}
+use Rattle.commanding.specs.declared.answers.Done.{Done}
+use Rattle.commanding.specs.Answers.{code_in, value_in, runs_in}
 use Rattle.commanding.specs.Command.{answered, command_in}
 use Rattle.engine.proofs.command.command.Kinds as command-kinds
 use Rattle.engine.proofs.command.command.Reads as command
@@ -18,9 +21,9 @@ use Rattle.script.proofs.turn.Reads as turn
 use Prim.Native.Nat.{ℕ}
 
 -- nodes, links, values, cells, log; the words of the command
-pub command_spelled : (κs : Lfts 6) (a : Dens κs command-kinds.ps) (r : Answer) (w : Lasts (ended_of 6 command-kinds.ps command-kinds.r) κs a)
+pub command_spelled : (κs : Lfts 6) (a : Dens κs command-kinds.ps) (r : Result Done Refusal) (w : Lasts (ended_of 6 command-kinds.ps command-kinds.r) κs a)
     → command.Learnt κs a r (at_exit (ended_of 6 command-kinds.ps command-kinds.r) κs a w)
-    ↔ (answered r.code r.value r.runs w.0 w.1.0 w.1.1.0 w.1.1.1.0 w.1.1.1.1.0
+    ↔ (answered (code_in r) (value_in r) (runs_in r) w.0 w.1.0 w.1.1.0 w.1.1.1.0 w.1.1.1.1.0
     ≡ command_in a.0.now a.1.0.now a.1.1.0.now a.1.1.1.0.now a.1.1.1.1.0.now a.1.1.1.1.1.0.now)
 command_spelled κs a r w = (λ p. p, λ p. p)
 

@@ -5,6 +5,7 @@ use borrow.Author.Tests.{eqb-true, eqb-false}
 use mir.Syntax.{w64}
 use mir.Val.{to_z, of_z}
 use mir.Facts.{to_z-of_z}
+use Rattle.commanding.proofs.AnswerLaws.{spelt}
 use Rattle.script.proofs.TurnLaws.{none_found, cut_found, more_found, unreadable_found, words_inside, left_inside, turn_found}
 use Rattle.script.proofs.turn.Goals as goal
 use Rattle.script.proofs.turn.Goals.{in-Short-2+else-is_empty, in-Unreadable-1}
@@ -30,4 +31,4 @@ overflow_sub-result c = let h = left_inside c.args.window.now c.args.words.now c
 -- The command keeps the length of each table, and nothing after it changes one; the search for that is dear.
 
 pub returns-in-Pair : goal.returns-in-Pair
-returns-in-Pair c = let p : to_z w64 (of_z w64 c.command-a.result.value) ≡ c.command-a.result.value = to_z-of_z {w = w64} (search rules) in turn_found c.args.window.now c.args.words.now c.pair.ensures _ _ c.in-Pair.is _ _ _ c.command-a.ensures (rw p at c.put_answer.ensures)
+returns-in-Pair c = let p : to_z w64 (of_z w64 c.from-a.result.value) ≡ c.from-a.result.value = to_z-of_z {w = w64} (search rules) in turn_found c.args.window.now c.args.words.now c.pair.ensures _ _ c.in-Pair.is _ _ _ (spelt _ c.from-a.ensures c.command.ensures) (rw p at c.put_answer.ensures)

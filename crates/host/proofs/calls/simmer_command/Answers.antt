@@ -1,5 +1,6 @@
 -- `host::calls::simmer_command` meets its contract. Assumes nothing.
 use borrow.Author.Rules.{rules}
+use Rattle.commanding.proofs.AnswerLaws.{spelt}
 use Rattle.hosting.proofs.Replies.{not_called, call_done}
 use mathlib.Core.Path.{◌≡◌}
 use mir.Syntax.{w64}
@@ -12,5 +13,5 @@ returns-then-reply-lt-REPLY c = not_called _ _ _ _ _ _ _ c.if-reply-lt-REPLY.tru
 
 pub returns : goal.returns
 returns c =
-    let value : to_z w64 (of_z w64 c.command-a.result.value) ≡ c.command-a.result.value = to_z-of_z {w = w64} (search rules) in
-    rw (c.put_reply.ensures, value) (call_done _ _ _ _ _ _ _ _ c.if-reply-lt-REPLY.false c.command-a.ensures)
+    let value : to_z w64 (of_z w64 c.from-a.result.value) ≡ c.from-a.result.value = to_z-of_z {w = w64} (search rules) in
+    rw (c.put_reply.ensures, value) (call_done _ _ _ _ _ _ _ _ c.if-reply-lt-REPLY.false (spelt _ c.from-a.ensures c.command.ensures))

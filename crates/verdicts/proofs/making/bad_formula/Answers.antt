@@ -1,36 +1,18 @@
 -- `verdicts::making::bad_formula` meets its contract. Assumes nothing.
-use borrow.Author.Rules.{rules}
-use mathlib.Core.Path.{ap, ◌∙◌}
-use Prim.Native.Nat.{◌≤◌}
-use lib.ListN.{length}
-use Rattle.refusing.proofs.CommandLaws.{from_inside}
-use Rattle.refusing.proofs.MakingLaws.{part_is, bad_none, bad_some}
+use mathlib.Core.Path.{sym, ap, ◌∙◌}
 use Rattle.trees.specs.Legal.{legal_in}
+use Rattle.refusing.proofs.MakingLaws.{bad_none, bad_some, bad_bare}
 use Rattle.verdicts.proofs.making.bad_formula.Goals as goal
 
-pub returns-then-asks_of-eq0 : goal.returns-then-asks_of-eq0
-returns-then-asks_of-eq0 c =
+pub returns-then-is_some : goal.returns-then-is_some
+returns-then-is_some c =
     let a = c.args in
-    bad_none a.nodes.now a.words.now c.asks_of.result c.asks_of.ensures c.if-asks_of-eq0.true
+    bad_some a.nodes.now a.words.now _ c.asks_of.ensures c.in-Makes.is (sym c.is_some.ensures ∙ c.if-is_some.true) (c.legal.ensures ∙ ap (legal_in a.nodes.now) c.formula_of.ensures)
 
-pub offset_bounds-words-from : goal.offset_bounds-words-from
-offset_bounds-words-from c =
+pub returns-else-is_some : goal.returns-else-is_some
+returns-else-is_some c =
     let a = c.args in
-    let inside : c.cells_from-from.result ≤ length a.words.now = rw c.cells_from-from.ensures (from_inside a.words.now) in
-    search rules
+    c.if-is_some.false ∙ bad_bare a.nodes.now a.words.now _ c.asks_of.ensures c.in-Makes.is (sym c.is_some.ensures ∙ c.if-is_some.false)
 
-pub slice_bounds-legal-count : goal.slice_bounds-legal-count
-slice_bounds-legal-count c =
-    let a = c.args in
-    rw c.cells_from-from.ensures (from_inside a.words.now)
-
-pub slice_bounds-legal-start : goal.slice_bounds-legal-start
-slice_bounds-legal-start c =
-    let a = c.args in
-    let inside : c.cells_from-from.result ≤ length a.words.now = rw c.cells_from-from.ensures (from_inside a.words.now) in
-    search rules
-
-pub returns : goal.returns
-returns c =
-    let a = c.args in
-    bad_some a.nodes.now a.words.now _ c.asks_of.ensures c.if-asks_of-eq0.false (c.legal.ensures ∙ ap (legal_in a.nodes.now) (part_is a.words.now c.cells_from-from.ensures))
+pub returns-in_default : goal.returns-in_default
+returns-in_default c = bad_none c.args.nodes.now c.args.words.now _ c.asks_of.ensures c.in_default.not-Makes

@@ -18,8 +18,8 @@ returns-then-no_room c =
     let low = sym (c.too_high.ensures ok) ∙ c.if-too_high.false in
     making_7 _ _ _ ok low (sym (c.no_room.ensures ok) ∙ c.if-no_room.true)
 
-pub returns : goal.returns
-returns c =
+pub returns-else-no_room : goal.returns-else-no_room
+returns-else-no_room c =
     let ok = sym c.bad_formula.ensures ∙ c.if-bad_formula.false in
     let low = sym (c.too_high.ensures ok) ∙ c.if-too_high.false in
     making_0 _ _ _ ok low (sym (c.no_room.ensures ok) ∙ c.if-no_room.false)

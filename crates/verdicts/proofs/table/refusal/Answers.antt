@@ -1,6 +1,7 @@
 -- `verdicts::table::refusal` meets its contract. Assumes nothing.
-use mathlib.Core.Path.{sym, ◌∙◌}
-use Rattle.refusing.proofs.TableLaws.{rows_are, given_2, given_3, given_4, given_made, given_8, given_9, given_0}
+use mathlib.Core.Path.{sym, ap, ◌∙◌}
+use Rattle.refusing.proofs.TableLaws.{number_some, rows_are, given_2, given_3, given_4, given_made, given_8, given_9, given_0}
+use Rattle.refusing.specs.Numbers.{refused_as}
 use Rattle.verdicts.proofs.table.refusal.Goals as goal
 
 pub returns-then-unknown : goal.returns-then-unknown
@@ -21,13 +22,13 @@ returns-then-gone_node c =
     let right = sym c.wrong_node.ensures ∙ c.if-wrong_node.false in
     given_4 _ _ _ _ _ _ _ _ known right (sym c.gone_node.ensures ∙ c.if-gone_node.true) ∙ sym (rows_are a.nodes.now a.links.now a.cells.now a.rows a.words.now)
 
-pub returns-then-r-ne0 : goal.returns-then-r-ne0
-returns-then-r-ne0 c =
+pub returns-in-Some : goal.returns-in-Some
+returns-in-Some c =
     let a = c.args in
     let known = sym c.unknown.ensures ∙ c.if-unknown.false in
     let right = sym c.wrong_node.ensures ∙ c.if-wrong_node.false in
     let live = sym c.gone_node.ensures ∙ c.if-gone_node.false in
-    given_made _ _ _ _ _ _ _ _ known right live c.making-r.ensures c.if-r-ne0.true ∙ sym (rows_are a.nodes.now a.links.now a.cells.now a.rows a.words.now)
+    given_made _ _ _ _ _ _ _ _ known right live (ap refused_as (sym c.in-Some.is) ∙ c.making.ensures) (number_some _) ∙ sym (rows_are a.nodes.now a.links.now a.cells.now a.rows a.words.now)
 
 pub returns-then-wrong_depth : goal.returns-then-wrong_depth
 returns-then-wrong_depth c =
@@ -35,7 +36,7 @@ returns-then-wrong_depth c =
     let known = sym c.unknown.ensures ∙ c.if-unknown.false in
     let right = sym c.wrong_node.ensures ∙ c.if-wrong_node.false in
     let live = sym c.gone_node.ensures ∙ c.if-gone_node.false in
-    given_8 _ _ _ _ _ _ _ _ known right live c.making-r.ensures c.if-r-ne0.false (sym c.wrong_depth.ensures ∙ c.if-wrong_depth.true) ∙ sym (rows_are a.nodes.now a.links.now a.cells.now a.rows a.words.now)
+    given_8 _ _ _ _ _ _ _ _ known right live c.making.ensures (ap refused_as c.in_default.is) (sym c.wrong_depth.ensures ∙ c.if-wrong_depth.true) ∙ sym (rows_are a.nodes.now a.links.now a.cells.now a.rows a.words.now)
 
 pub returns-then-few_rows : goal.returns-then-few_rows
 returns-then-few_rows c =
@@ -44,7 +45,7 @@ returns-then-few_rows c =
     let right = sym c.wrong_node.ensures ∙ c.if-wrong_node.false in
     let live = sym c.gone_node.ensures ∙ c.if-gone_node.false in
     let deep = sym c.wrong_depth.ensures ∙ c.if-wrong_depth.false in
-    given_9 _ _ _ _ _ _ _ _ known right live c.making-r.ensures c.if-r-ne0.false deep (sym c.few_rows.ensures ∙ c.if-few_rows.true) ∙ sym (rows_are a.nodes.now a.links.now a.cells.now a.rows a.words.now)
+    given_9 _ _ _ _ _ _ _ _ known right live c.making.ensures (ap refused_as c.in_default.is) deep (sym c.few_rows.ensures ∙ c.if-few_rows.true) ∙ sym (rows_are a.nodes.now a.links.now a.cells.now a.rows a.words.now)
 
 pub returns : goal.returns
 returns c =
@@ -53,4 +54,4 @@ returns c =
     let right = sym c.wrong_node.ensures ∙ c.if-wrong_node.false in
     let live = sym c.gone_node.ensures ∙ c.if-gone_node.false in
     let deep = sym c.wrong_depth.ensures ∙ c.if-wrong_depth.false in
-    given_0 _ _ _ _ _ _ _ _ known right live c.making-r.ensures c.if-r-ne0.false deep (sym c.few_rows.ensures ∙ c.if-few_rows.false) ∙ sym (rows_are a.nodes.now a.links.now a.cells.now a.rows a.words.now)
+    given_0 _ _ _ _ _ _ _ _ known right live c.making.ensures (ap refused_as c.in_default.is) deep (sym c.few_rows.ensures ∙ c.if-few_rows.false) ∙ sym (rows_are a.nodes.now a.links.now a.cells.now a.rows a.words.now)
