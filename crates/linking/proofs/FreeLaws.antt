@@ -6,7 +6,6 @@ use mathlib.Core.Bool.{Bool, true, false, not, false≢true}
 use mathlib.Core.List.{List}
 use Prim.Native.Nat.{ℕ, zero, suc, ◌+◌, ◌*◌, ◌/◌, ◌<◌, ◌≤◌}
 use native.Mathlib.Decide.{ℕ_discrete, dec_lt}
-use native.Mathlib.Numerals.{add-one}
 use native.Mathlib.Omega.{arith}
 use lib.Dec.{eqb}
 use lib.ListN.{length, get_or, set, length-set, get_or-eq_default}
@@ -61,10 +60,6 @@ below_le l (suc n) = go (is_live_slot l n) (below_le l n)
     go : (b : Bool) → live_below l n ≤ n → live_below l n + one b ≤ suc n
     go true h = omega arith
     go false h = omega arith
-
-pub below_more : (l : List ℕ) (n : ℕ) {b : Bool} → b ≡ is_live_slot l n → {c : Bool} → b ≡ c → live_below l (n + 1) ≡ live_below l n + one c
-unfolding live_below
-below_more l n e f = rw add-one (ap (λ (x : Bool). live_below l n + one x) (sym e ∙ f))
 
 pub live_le : (l : List ℕ) → live l ≤ slots l
 unfolding live

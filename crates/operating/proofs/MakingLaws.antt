@@ -1,14 +1,12 @@
 -- The making of a node, one law for each way. Assumes nothing.
-use mathlib.Core.Path.{◌≡◌, refl, ap}
+use mathlib.Core.Path.{◌≡◌, refl}
 use mathlib.Core.Bool.{Bool, true, false, ◌&&◌}
 use mathlib.Core.List.{List}
 use Prim.Native.Nat.{ℕ, suc, ◌+◌, ◌*◌, ◌/◌, ◌<◌, ◌≤◌}
-use native.Mathlib.Omega.{arith}
 use native.Mathlib.Numerals.{add-one}
 use lib.Dec.{leb, ltb}
-use lib.IntN.{ℤ, pos}
-use lib.ListN.{length, get_or, set, drop, drop_of_length-le}
-use lib.Seq.{drop-cons}
+use lib.IntN.{ℤ}
+use lib.ListN.{length, get_or, set}
 use borrow.Author.Tests.{ltb-true, leb-true}
 use Rattle.values.specs.declared.Value.{Value}
 use Rattle.primitive.specs.Words.{COUNT, USED, node_rows}
@@ -34,20 +32,6 @@ module _ (N : List ℕ) (c : List ℤ) (k : ℕ) (h : has_room N c k ≡ true) w
   pub room_cells : get_or N USED 0 + k ≤ length c / 2
   unfolding has_room
   room_cells = leb-true _ _ (and_right (ltb (suc (get_or N COUNT 0)) (node_rows N)) (leb (get_or N USED 0 + k) (length c / 2)) h)
-
--- ---- the formula
-pub lay_step : (c : List ℤ) (at i : ℕ) (ws : List ℤ) → i < length ws → laid c (at + i) (drop i ws) ≡ laid (set c (at + i) (get_or ws i (pos 0))) (at + (i + 1)) (drop (i + 1) ws)
-unfolding laid
-lay_step c at i ws h =
-    let e : at + (i + 1) ≡ suc (at + i) = omega arith in
-    rw (e, add-one i, drop-cons ws i (pos 0), laid)
-
-pub lay_start : (c : List ℤ) (at : ℕ) (ws : List ℤ) → laid c (at + 0) (drop 0 ws) ≡ laid c at ws
-lay_start c at ws = ap (λ (i : ℕ). laid c i ws) (omega arith)
-
-pub lay_done : (c : List ℤ) (at i : ℕ) (ws : List ℤ) → length ws ≤ i → laid c (at + i) (drop i ws) ≡ c
-unfolding laid
-lay_done c at i ws h = rw (drop_of_length-le ws h)
 
 -- ---- the node
 module _ (N : List ℕ) (l : List ℕ) (v c : List ℤ) (k : Sort) (ws : List ℤ) (x : Value) where

@@ -2,7 +2,7 @@
 use mathlib.Core.Path.{◌≡◌, refl, sym, ap, ◌∙◌}
 use mathlib.Core.Bool.{Bool, true, false}
 use mathlib.Core.List.{List, ◌++◌, append-nil}
-use Prim.Native.Nat.{ℕ, zero, suc, ◌+◌, ◌*◌, ◌-◌, ◌%◌, ◌^◌, ◌<◌, ◌≤◌}
+use Prim.Native.Nat.{ℕ, zero, suc, ◌+◌, ◌*◌, ◌-◌, ◌<◌, ◌≤◌}
 use native.Mathlib.Omega.{arith}
 use native.Mathlib.Numerals.{add-one}
 use lib.Dec.{leb}
@@ -10,9 +10,6 @@ use lib.IntN.{ℤ}
 use lib.ListN.{length, set, take, drop, length-drop, drop_of_length-le}
 use lib.Seq.{take_all}
 use borrow.Author.Tests.{eq-eqb, ne_eqb, lt-ltb, le-ltb, lt-leb, le-leb, leb-true}
-use mir.Syntax.{w64}
-use mir.Val.{to_z}
-use mir.Facts.{to_z_pos}
 use borrow.Rule.Slice.PartMut.{mid_of, put_mid}
 use Rattle.primitive.specs.declared.slots.Slot.TheVariants.{At, Nothing}
 use Rattle.values.specs.declared.Value.{Value}
@@ -26,7 +23,7 @@ use Rattle.reading.specs.Tables.{State, state, Told, told, Got, current_of, pend
 use Rattle.reading.specs.Read.{checked}
 use Rattle.operating.specs.Log.{Ran, ran_to, rowed, rows_in, number_word}
 use Rattle.operating.specs.Runs.{must_run, reran, ran, ran_next, flushed_from, flushed}
-use Rattle.operating.specs.Batches.{depth_of, most_depth, started, flushed_at, ended_batch}
+use Rattle.operating.specs.Batches.{depth_of, flushed_at, ended_batch}
 use Rattle.operating.specs.Writes.{stored, announced, written, added}
 
 -- ---- rows
@@ -41,14 +38,6 @@ no_rows l h = rw (lt-leb _ _ h, rows_in)
 pub one_row : (l : List ℤ) (e : ℕ) (v : Value) → 2 ≤ length l → set (set l 0 (number_word e)) 1 v.word ≡ rowed l e v
 unfolding rowed
 one_row l e v h = rw (le-leb _ _ h, rowed)
-
-pub as_number : (n : ℕ) → to_z w64 (n % 2 ^ 63) ≡ number_word n
-unfolding number_word
-as_number n = to_z_pos w64 (omega arith)
-
-pub one_rows : (l : List ℤ) → 2 ≤ length l → 1 ≡ rows_in l
-unfolding rows_in
-one_rows l h = rw (le-leb _ _ h, rows_in)
 
 rows_fit : (l : List ℤ) → rows_in l * 2 ≤ length l
 unfolding rows_in
@@ -133,19 +122,6 @@ pub flush_done : (ws : List ℤ) (k i : ℕ) (r : Ran) → count r.after.nodes �
 unfolding flushed_from
 flush_done ws zero i r h = refl
 flush_done ws (suc k) i r h = rw (le-ltb _ _ h, flushed_from)
-
--- ---- batches
-pub start_more : (N : List ℕ) (d : ℕ) → d ≡ depth_of N → d < most_depth → set N DEPTH (d + 1) ≡ started N
-unfolding started
-start_more N d e h =
-    let z : depth_of N < most_depth = omega arith in
-    rw (lt-ltb _ _ z, started, ← e, add-one d)
-
-pub start_most : (N : List ℕ) (d : ℕ) → d ≡ depth_of N → most_depth ≤ d → N ≡ started N
-unfolding started
-start_most N d e h =
-    let z : most_depth ≤ depth_of N = omega arith in
-    rw (le-ltb _ _ z, started)
 
 at_zero : (ws : List ℤ) (s : State) (l : List ℤ) (d : ℕ) → d ≡ 0 → flushed ws s l ≡ flushed_at ws s l d
 unfolding flushed_at
