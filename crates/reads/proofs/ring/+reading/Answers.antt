@@ -5,8 +5,6 @@ use Prim.Native.Nat.{◌-◌, ◌+◌, ◌/◌}
 use lib.ListN.{length}
 use Rattle.std.proofs.lemmas.Bool.{le-ltb}
 use Rattle.std.proofs.lemmas.Grind.{common_steps}
-use Rattle.std.proofs.Common.{Some}
-use Rattle.primitive.specs.declared.kinds.Kind.TheVariants.{Signal, Computed}
 use Rattle.std.proofs.Math.Nat.{sub-zero}
 use mir.Facts.{to_z-of_z}
 use mir.Syntax.{w64}
