@@ -40,7 +40,7 @@ fn is_newest(nodes: &[u64], links: &[u64], dep: u64, sub: u64, version: Version)
     used == version && words::get(links, LINK, s, SUB) == sub
 }
 
-// A slot with these words, and its word; 0 where none is free, as `free::take` answers.
+// A slot with these words, and its word; 0 where none is free, as `free::take` answers. A word and no Slot: `made` says it, and the tables keep it as it is.
 fn new_link(links: &mut [u64], init: LinkInit) -> u64
     ensures { fresh result links.new ≡ made links.old init }
 {

@@ -1,7 +1,7 @@
 use flags::Flags;
 use primitive::kinds::Kind;
 
-// What a new node is, besides its formula. The owner is a word: 0 for none, else its number + 1.
+// What a new node is, besides its formula. The owner is a table word, kept as it came: 0 for none, else its number + 1.
 #[derive(Clone, Copy)]
 pub struct Sort {
     pub kind: Kind,

@@ -7,6 +7,7 @@ use values::Value;
 // A node's number is far below it.
 const HALF: u64 = 1 << 63;
 
+// A remainder and no i64::try_from: this conversion cannot fail, and that one could.
 #[tactic(auto, unfolding(operating::specs::Log::number_word))]
 pub fn number_word(n: u64) -> i64
     ensures { result ≡ number_word n }
