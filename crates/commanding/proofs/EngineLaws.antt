@@ -39,9 +39,6 @@ module _ (k : ℤ) {r : Option ℕ} (found : r ≡ natural_of k) where
   pub node_is : (n : ℕ) → r ≡ Some n → n ≡ node_of k
   node_is n e = sym (ap node_of (natural_pos k found n e))
 
-  pub node_none : r ≡ None → 0 ≡ node_of k
-  node_none e = natural_neg k found (λ (z : ℤ). 0 ≡ node_of z) e (λ n. refl)
-
   pub owner_is_word : (n : ℕ) → r ≡ Some n → n + 1 ≡ owner_word k
   owner_is_word n e = add-one n ∙ sym (ap owner_word (natural_pos k found n e))
 
@@ -56,10 +53,6 @@ module _ (n l : List ℕ) (v c : List ℤ) {d : Bool} (e : d ≡ described_in n 
   pub described_so : {j : Bool} → d ≡ true → j ≡ joined_in n l c → j ≡ well_formed_in n l v c
   unfolding well_formed_in
   described_so h g = let z : described_in n l v c ≡ true = sym e ∙ h in rw (z, well_formed_in) g
-
-  pub described_not : d ≡ false → false ≡ well_formed_in n l v c
-  unfolding well_formed_in
-  described_not h = let z : described_in n l v c ≡ false = sym e ∙ h in rw (z, well_formed_in)
 
 -- ---- the decision
 module _ (n l : List ℕ) (c g ws : List ℤ) (b : Bool) where

@@ -20,20 +20,14 @@ use values::Value;
 fn node_of(k: i64) -> u64
     ensures { result ≡ node_of k }
 {
-    let Some(n) = natural(k) else {
-        return 0;
-    };
-    n
+    natural(k).unwrap_or(0)
 }
 
 // The owner as a word of the tables: 0 for none, else its number + 1.
 fn owner_word(k: i64) -> u64
     ensures { result ≡ owner_word k }
 {
-    let Some(n) = natural(k) else {
-        return 0;
-    };
-    n + 1
+    natural(k).map_or(0, |n| n + 1)
 }
 
 // The cells of the command's formula are lent beside it.
@@ -65,10 +59,9 @@ pub fn perform(
         }
         Command::Effect(o) => {
             let e = new_effect(nodes, links, values, cells, log, owner_word(o), formula);
-            let runs = e.rows;
             Done {
                 value: number_word(e.number),
-                runs: runs,
+                runs: e.rows,
             }
         }
         Command::Scope(o) => {
@@ -80,17 +73,11 @@ pub fn perform(
         }
         Command::Set(n, k) => {
             let runs = set(nodes, links, values, cells, log, node_of(n), Value::of(k));
-            Done {
-                value: 0,
-                runs: runs,
-            }
+            Done { value: 0, runs }
         }
         Command::Add(n, k) => {
             let runs = add(nodes, links, values, cells, log, node_of(n), Value::of(k));
-            Done {
-                value: 0,
-                runs: runs,
-            }
+            Done { value: 0, runs }
         }
         Command::Read(n) => {
             let v = read(nodes, links, values, cells, node_of(n));
@@ -109,10 +96,7 @@ pub fn perform(
         }
         Command::End => {
             let runs = end_batch(nodes, links, values, cells, log);
-            Done {
-                value: 0,
-                runs: runs,
-            }
+            Done { value: 0, runs }
         }
         Command::Unknown => Done { value: 0, runs: 0 },
     }

@@ -1,17 +1,13 @@
 -- What the code's record says is what `meaning` asks; each row of the table by that record. Assumes nothing.
 use Rattle.std.specs.Prelude.{Option, None, Some}
-use mathlib.Core.Path.{◌≡◌, refl, sym, ap, ap₂, ◌∙◌}
+use mathlib.Core.Path.{◌≡◌, refl, sym, ap, ◌∙◌}
 use mathlib.Core.Bool.{Bool, true, false, not, ◌&&◌, ◌||◌}
 use mathlib.Core.List.{List}
 use Prim.Native.Nat.{ℕ}
-use lib.Dec.{eqb}
-use lib.IntN.{ℤ, pos}
-use lib.ListN.{get_or}
-use borrow.Author.Tests.{ne_eqb}
+use lib.IntN.{ℤ}
 use Rattle.meaning.specs.Words.{Command as Meant, owner_of, command_of}
 use Rattle.meaning.specs.Refusals.{Sight, Asks as Meanings, asks_of, on, is_a, wrong_owner, wrong_node, is_gone, gone_node, bad_formula, tree_in, too_high, full, no_room}
 use Rattle.refusing.specs.declared.commands.Command.{Command}
-use Rattle.refusing.specs.declared.commands.Command.TheVariants.{Start, End, Unknown}
 use Rattle.primitive.specs.declared.kinds.Kind.{Kind as Made}
 use Rattle.refusing.specs.declared.asks.Takes.{Takes}
 use Rattle.refusing.specs.declared.asks.Asks.{Asks}

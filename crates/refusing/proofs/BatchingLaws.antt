@@ -7,7 +7,7 @@ use native.Mathlib.Omega.{arith}
 use lib.Dec.{eqb, ltb, leb}
 use lib.IntN.{ℤ}
 use lib.ListN.{get_or}
-use borrow.Author.Tests.{eq-eqb, ne_eqb, le-ltb, leb-true}
+use borrow.Author.Tests.{eq-eqb, le-ltb, leb-true}
 use Rattle.primitive.specs.Words.{KIND, GONE, EFFECT, node}
 use Rattle.counting.specs.Counts.{counted_in, total, effect_of, live_effects_in}
 use Rattle.meaning.specs.Words.{command_of}
@@ -38,9 +38,6 @@ module _ (nodes : List ℕ) where
 module _ (nodes : List ℕ) (d : ℕ) {e : ℕ} (depth : e ≡ get_or nodes 9 0) where
   pub flush_now : {r : ℕ} → e ≡ d → r ≡ live_effects_in nodes → r ≡ flush_rows (nodes_alone nodes) d
   flush_now f g = rw (eq-eqb (get_or nodes 9 0) d (sym depth ∙ f), flush_rows) g
-
-  pub flush_not : (e ≡ d → ⊥) → 0 ≡ flush_rows (nodes_alone nodes) d
-  flush_not f = rw (ne_eqb (get_or nodes 9 0) d (λ g. f (depth ∙ g)), flush_rows)
 
 module _ (nodes : List ℕ) (rows : ℕ) where
   few_told : (b : Command) (ws : List ℤ) → ltb rows (wanted (nodes_alone nodes) (number_of b)) ≡ on (told b ws) (few_rows (sight_in nodes [] [] rows))

@@ -3,7 +3,7 @@ use Rattle.std.specs.Prelude.{Option, Some, None, unwrap_or, is_some}
 use mathlib.Core.Path.{◌≡◌, refl, sym, ap, ap₂, ◌∙◌}
 use mathlib.Core.Bool.{Bool, true, false, not, ◌||◌}
 use mathlib.Core.List.{List, []}
-use Prim.Native.Nat.{ℕ, zero, suc, ◌+◌, ◌*◌, ◌-◌, ◌/◌, ◌<◌, ◌≤◌, min}
+use Prim.Native.Nat.{ℕ, suc, ◌+◌, ◌*◌, ◌-◌, ◌/◌, ◌<◌, ◌≤◌, min}
 use native.Mathlib.Decide.{dec_lt}
 use native.Mathlib.Omega.{arith}
 use lib.Dec.{leb, ltb}
@@ -16,7 +16,7 @@ use Rattle.trees.specs.Trees.{Tree, constant, size}
 use Rattle.trees.specs.Cells.{natural_of}
 use Rattle.trees.specs.Legal.{legal_in}
 use Rattle.trees.specs.Names.{named, all_named, read_cells, height_in}
-use Rattle.trees.proofs.CellLaws.{natural_pos, natural_neg}
+use Rattle.trees.proofs.CellLaws.{natural_neg}
 use Rattle.counting.specs.Counts.{top, node_room, slot_room, cell_room, reserve_in}
 use Rattle.meaning.specs.State.{Kind, signal, computed, effect, scope}
 use Rattle.meaning.specs.Words.{owner_of, formula_of, command_of}
@@ -116,9 +116,6 @@ module _ (nodes : List ℕ) where
     pub deep_none : r ≡ None → false ≡ ltb most_owner_depth (depth_under height (owner_of z))
     deep_none e = natural_neg z found (λ (x : ℤ). false ≡ ltb most_owner_depth (depth_under height (owner_of x))) e (λ n. refl)
 
-    pub deep_some : (o : ℕ) {w : ℕ} → r ≡ Some o → w ≡ node nodes o LEVEL → leb most_owner_depth w ≡ ltb most_owner_depth (depth_under height (owner_of z))
-    deep_some o {w} e g = deeper w ∙ rw (natural_pos z found o e, ← g)
-
   module _ (ws : List ℤ) where
     abbrev Over : Command → Bool
     Over b = over (nodes_alone nodes) (kind_asked (asked b)) (tree_in (cells_asked (from_asked (asked b)) ws)) (owner_of (owner_asked (asked b)))
@@ -186,9 +183,6 @@ no_reads = refl
 module _ (z : ℤ) {r : Option ℕ} (found : r ≡ natural_of z) (cs : List ℤ) where
   pub slots_none : {n s : ℕ} → r ≡ None → n ≡ read_cells cs → s ≡ min top (n + n) → s ≡ min top (2 * read_cells cs + owned_link (owner_of z))
   slots_none {n} {s} e f g = natural_neg z found (λ (x : ℤ). s ≡ min top (2 * read_cells cs + owned_link (owner_of x))) e (λ k. omega arith)
-
-  pub slots_some : (k : ℕ) {n s t : ℕ} → r ≡ Some k → n ≡ read_cells cs → s ≡ min top (n + n) → t ≡ min top (s + 1) → t ≡ min top (2 * read_cells cs + owned_link (owner_of z))
-  slots_some k e f g h = rw (natural_pos z found k e) (omega arith)
 
 module _ (nodes links : List ℕ) (cells ws : List ℤ) where
   abbrev v : Sight

@@ -8,15 +8,14 @@ use native.Mathlib.Omega.{arith}
 use lib.Dec.{eqb}
 use lib.IntN.{ℤ, pos, negsuc}
 use lib.ListN.{get_or}
-use borrow.Author.Tests.{eq-eqb, ne_eqb, lt-ltb, le-ltb}
+use borrow.Author.Tests.{lt-ltb, le-ltb}
 use mir.Syntax.{w64}
 use mir.Val.{SFits, of_z}
 use Rattle.primitive.specs.Rows.{field}
 use Rattle.primitive.specs.Words.{SIGNAL, COMPUTED, EFFECT}
 use Rattle.trees.specs.Cells.{natural_of}
-use Rattle.trees.specs.Legal.{read_kind}
 use Rattle.trees.proofs.CellLaws.{natural_pos, natural_neg}
-use Rattle.meaning.specs.State.{Kind, signal, computed, effect, scope, readable}
+use Rattle.meaning.specs.State.{Kind, signal, computed, effect, scope}
 use Rattle.meaning.specs.Words.{command_of}
 use Rattle.meaning.specs.Refusals.{unknown, a_signal, an_owner, is_a, wrong_owner, is_gone}
 use Rattle.refusing.specs.declared.commands.Command.{Command}
@@ -24,7 +23,6 @@ use Rattle.refusing.specs.declared.commands.Command.TheVariants.{Unknown}
 use Rattle.refusing.specs.Sight.{either, kind_of, nodes_alone}
 use Rattle.refusing.specs.Commands.{number_of, brief, told}
 use Rattle.refusing.proofs.CommandLaws.{each, told_is}
-use Rattle.refusing.proofs.Formulas.{readable_kind}
 
 -- ---- 2
 told_number : (b : Command) (ws : List ℤ) → eqb (number_of b) 0 ≡ unknown (told b ws)
@@ -57,14 +55,6 @@ kind_signal w = go (eqb w SIGNAL) (eqb w COMPUTED) (eqb w EFFECT)
     go false true c = refl
     go false false true = refl
     go false false false = refl
-
-pub kind_first : (w : ℕ) → w ≡ 1 → true ≡ readable (kind_of w)
-unfolding read_kind
-kind_first w e = sym (readable_kind w ∙ rw (eq-eqb w 1 e, read_kind))
-
-pub kind_second : (w : ℕ) → (w ≡ 1 → ⊥) → eqb w 2 ≡ readable (kind_of w)
-unfolding read_kind
-kind_second w e = sym (readable_kind w ∙ rw (ne_eqb w 1 e, read_kind))
 
 module _ (nodes : List ℕ) (z : ℤ) {r : Option ℕ} (found : r ≡ natural_of z) where
   -- ---- 3
@@ -108,6 +98,3 @@ module _ (nodes : List ℕ) where
 -- ---- either of two
 pub or_first : (x y : Bool) {r : Bool} → r ≡ x → r ≡ true → true ≡ (x || y)
 or_first x y e f = rw (sym e ∙ f)
-
-pub or_second : (x y : Bool) {r s : Bool} → r ≡ x → r ≡ false → s ≡ y → s ≡ (x || y)
-or_second x y e f g = rw (sym e ∙ f) g
