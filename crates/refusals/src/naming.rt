@@ -41,6 +41,7 @@ fn readable_kind(kind: u64) -> bool
 }
 
 // Whether n is the number of a node of a kind that is taken.
+#[tactic(auto, unfolding(meaning::specs::Refusals::is_a))]
 fn is_a(nodes: &[u64], t: Takes, n: i64) -> bool
     ensures { result ≡ is_a (nodes_alone nodes.now) (taken t) n }
 {
@@ -51,6 +52,7 @@ fn is_a(nodes: &[u64], t: Takes, n: i64) -> bool
 }
 
 // -1 as owner means none.
+#[tactic(auto, using(refusing::proofs::NamingLaws::owner_nobody, refusing::proofs::NamingLaws::owner_somebody))]
 fn wrong_owner(nodes: &[u64], owner: i64) -> bool
     ensures { result ≡ wrong_owner (nodes_alone nodes.now) owner }
 {

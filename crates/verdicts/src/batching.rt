@@ -59,6 +59,7 @@ fn ample(nodes: &[u64], rows: u64) -> bool
 }
 
 // 9: too few log rows. Live effects are counted only for a log that might be short.
+#[tactic(auto, using(refusing::proofs::BatchingLaws::few_by, refusing::proofs::BatchingLaws::not_few), unfolding(meaning::specs::Words::command_of, meaning::specs::Refusals::few_rows))]
 pub fn few_rows(nodes: &[u64], rows: u64, words: &[i64]) -> bool
     ensures { result ≡ on (command_of words.now) (few_rows (sight_in nodes.now [] [] rows)) }
 {

@@ -26,6 +26,7 @@ use refusing::refusal::Refusal;
 pub const MOST_OWNER_DEPTH: u64 = 16;
 
 // The cells of the command's formula; none at all if it has no formula.
+#[tactic(auto, using(refusing::proofs::CommandLaws::from_inside, refusing::proofs::MakingLaws::part_is), unfolding(refusing::specs::Asked::formula_in))]
 fn formula_of(words: &[i64]) -> &[i64]
     ensures { result.now ≡ formula_in words.now }
 {
@@ -33,6 +34,7 @@ fn formula_of(words: &[i64]) -> &[i64]
 }
 
 // 5: the formula breaks a rule.
+#[tactic(auto, using(refusing::proofs::MakingLaws::bad_none, refusing::proofs::MakingLaws::bad_some, refusing::proofs::MakingLaws::bad_bare), unfolding(meaning::specs::Words::command_of, meaning::specs::Refusals::bad_formula))]
 pub fn bad_formula(nodes: &[u64], words: &[i64]) -> bool
     ensures { result ≡ on (command_of words.now) (bad_formula (nodes_alone nodes.now)) }
 {
