@@ -9,7 +9,8 @@ ghost use Rattle.refusing.specs.Asked.{taken};
 use crate::asks::asks_of;
 use crate::commands::command_of;
 use formula::cells::natural;
-use primitive::rows::{COMPUTED, COUNT, GONE, KIND, NODE, SIGNAL};
+use primitive::kinds::Kind;
+use primitive::rows::{COUNT, GONE, KIND, NODE};
 use primitive::words;
 use refusing::asks::{Asks, Takes};
 use refusing::commands::Command;
@@ -27,7 +28,7 @@ fn takes_kind(t: Takes, kind: u64) -> bool
     ensures { result ≡ taken t (kind_of kind) }
 {
     match t {
-        Takes::Signals => kind == SIGNAL,
+        Takes::Signals => kind == Kind::Signal.word(),
         Takes::Readable => readable_kind(kind),
         Takes::Owners => !readable_kind(kind),
     }
@@ -37,7 +38,7 @@ fn takes_kind(t: Takes, kind: u64) -> bool
 fn readable_kind(kind: u64) -> bool
     ensures { result ≡ readable (kind_of kind) }
 {
-    kind == SIGNAL || kind == COMPUTED
+    matches!(Kind::of_word(kind), Some(Kind::Signal | Kind::Computed))
 }
 
 // Whether n is the number of a node of a kind that is taken.
