@@ -15,7 +15,7 @@ pub const MOST_SLOTS: u64 = 8192;
 // Cells of all formulas together.
 pub const MOST_CELL_ROOM: u64 = 8192;
 
-// Rows after the header; none where there is no header row. One function for both tables would ask of its caller that the width is not 0.
+// Rows after the header; none where there is no header row. One function for both tables is no plainer: each is a line.
 pub fn node_room(nodes: &[u64]) -> u64
     ensures { result ≡ node_room nodes.now }
 {

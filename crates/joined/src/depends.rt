@@ -22,7 +22,7 @@ pub fn reads(nodes: &[u64], n: u64) -> bool
     )
 }
 
-// Whether node n is of a kind that owns. Other kinds than those that read, and no more in common, so this is no twin of `reads`.
+// Whether node n is of a kind that owns.
 fn owns(nodes: &[u64], n: u64) -> bool
     ensures { result ≡ owns_kind (node nodes.now n KIND) }
 {

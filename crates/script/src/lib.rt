@@ -13,7 +13,7 @@ use spelling::lines::Found;
 use text::answers::{put_answer, put_unreadable};
 use text::lines::pair;
 
-// over: nothing comes behind the window. A struct of what is lent would hold seven `&mut`, and the clause would say of each that it is the same still.
+// over: nothing comes behind the window. What is lent stands one by one as yet: docs/DESIGN-PASS.md, point 5.
 pub fn turn(
     nodes: &mut [u64],
     links: &mut [u64],
