@@ -23,11 +23,7 @@ fn put_reply(reply: &mut [i64], code: u64, value: i64, runs: u64)
     if reply.len() < REPLY {
         return;
     }
-    let first = number_word(code);
-    let third = number_word(runs);
-    reply[0] = first;
-    reply[1] = value;
-    reply[2] = third;
+    reply[..3].copy_from_slice(&[number_word(code), value, number_word(runs)]);
 }
 
 // 1, and nothing is touched, where the lengths do not carry capacities; else 0.
@@ -62,7 +58,7 @@ pub fn simmer_command(
     a.code
 }
 
-// A series that stopped, as a number.
+// A series that stopped, as the number that C is told; what the numbers are stands in `hosting`, above the crate of `Why`.
 fn why_number(why: Why) -> u64
     ensures { result ≡ why_number why }
 {
@@ -81,14 +77,12 @@ fn put_many(reply: &mut [i64], why: u64, used: u64, done: u64, rows: u64)
     if reply.len() < REPLY {
         return;
     }
-    let first = number_word(why);
-    let second = number_word(used);
-    let third = number_word(done);
-    let fourth = number_word(rows);
-    reply[0] = first;
-    reply[1] = second;
-    reply[2] = third;
-    reply[3] = fourth;
+    reply[..4].copy_from_slice(&[
+        number_word(why),
+        number_word(used),
+        number_word(done),
+        number_word(rows),
+    ]);
 }
 
 // Why it stopped, which is the reply's first word too; behind it the words used, the commands done and the rows written.

@@ -1,12 +1,12 @@
 -- The ways through a step, one law each; what a step that stopped and one that was done have come to. Assumes nothing.
 use mathlib.Core.Path.{◌≡◌, refl, sym, ap, ◌∙◌, subst}
 use mathlib.Core.Bool.{Bool, true, false}
-use mathlib.Core.List.{List}
+use mathlib.Core.List.{List, [], ◌∷◌, ◌++◌}
 use Prim.Native.Nat.{ℕ, zero, suc, ◌+◌, ◌-◌, ◌≤◌, ◌<◌}
 use native.Mathlib.Omega.{arith}
 use lib.Dec.{eqb, leb}
 use lib.IntN.{ℤ}
-use lib.ListN.{length, set, take, drop}
+use lib.ListN.{length, take, drop}
 use borrow.Author.Tests.{eq-eqb, ne_eqb, eqb-true, eqb-false, le-leb, lt-leb, leb-true, leb-false}
 use Rattle.operating.specs.Log.{number_word}
 use Rattle.commanding.specs.Command.{Answered, refused, refusal_on, answer, command_on}
@@ -24,9 +24,12 @@ pub no_answer : (y : List ℤ) (code : ℕ) (value : ℤ) (runs : ℕ) → lengt
 unfolding written
 no_answer y code value runs h = rw (lt-leb _ _ h, written)
 
-pub whole_answer : (y : List ℤ) (code : ℕ) (value : ℤ) (runs : ℕ) → answer_words ≤ length y → set (set (set y 0 (number_word code)) 1 value) 2 (number_word runs) ≡ written y code value runs
+pub whole_answer : (y : List ℤ) (code : ℕ) (value : ℤ) (runs : ℕ) → answer_words ≤ length y → (number_word code ∷ value ∷ number_word runs ∷ []) ++ drop answer_words y ≡ written y code value runs
 unfolding written
-whole_answer y code value runs h = rw (le-leb _ _ h, written)
+whole_answer [] code value runs h = absurd (omega (arith, h))
+whole_answer (x ∷ []) code value runs h = absurd (omega (arith, h))
+whole_answer (x ∷ z ∷ []) code value runs h = absurd (omega (arith, h))
+whole_answer (x ∷ z ∷ w ∷ rest) code value runs h = rw (le-leb _ _ h, written) refl
 
 -- ---- a step
 module _ (f : List ℤ → Answered) (n l : List ℕ) (v c g list y : List ℤ) where

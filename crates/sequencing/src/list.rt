@@ -1,5 +1,5 @@
 // What a list begins with.
-#[derive(Clone, Copy)]
+#[derive(Clone, Copy, PartialEq, Eq)]
 pub enum Next {
     // nothing: it is over
     Over,

@@ -1,5 +1,5 @@
 // Why a series stops.
-#[derive(Clone, Copy)]
+#[derive(Clone, Copy, PartialEq, Eq)]
 pub enum Why {
     // the list is over
     Over,
@@ -12,7 +12,7 @@ pub enum Why {
 }
 
 // What a step comes to.
-#[derive(Clone, Copy)]
+#[derive(Clone, Copy, PartialEq, Eq)]
 pub enum Step {
     // nothing was done
     Stopped(Why),

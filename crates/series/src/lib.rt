@@ -40,6 +40,7 @@ pub fn series(
     let mut used: usize = 0;
     let mut done: usize = 0;
     let mut ran: usize = 0;
+    // A step says how many words it took.
     while used < list.len() {
         let at = ran * ROW;
         let to = done * ANSWER;
@@ -55,9 +56,9 @@ pub fn series(
         ) {
             Step::Stopped(why) => {
                 return Ended {
-                    why: why,
-                    used: used,
-                    done: done,
+                    why,
+                    used,
+                    done,
                     rows: ran,
                 };
             }
@@ -70,8 +71,8 @@ pub fn series(
     }
     Ended {
         why: Why::Over,
-        used: used,
-        done: done,
+        used,
+        done,
         rows: ran,
     }
 }

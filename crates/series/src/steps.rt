@@ -20,11 +20,7 @@ fn put_answer(answers: &mut [i64], code: u64, value: i64, runs: u64)
     if answers.len() < ANSWER {
         return;
     }
-    let first = number_word(code);
-    let third = number_word(runs);
-    answers[0] = first;
-    answers[1] = value;
-    answers[2] = third;
+    answers[..ANSWER].copy_from_slice(&[number_word(code), value, number_word(runs)]);
 }
 
 // formed: whether the tables are well formed, as the caller knows.
