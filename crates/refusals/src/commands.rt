@@ -7,7 +7,7 @@ use formula::cells::natural;
 use primitive::words;
 use refusing::commands::Command;
 
-// Whether so many words are as many as the command of this code takes.
+// Whether so many words are as many as the command of this code takes. The numbers are the host's: the C interface.
 #[tactic(auto, unfolding(refusing::specs::Commands::takes_words))]
 fn takes_words(code: u64, n: usize) -> bool
     ensures { result ≡ takes_words code n }
@@ -27,7 +27,7 @@ fn takes_words(code: u64, n: usize) -> bool
     }
 }
 
-// The command of this number, with the two words after its code.
+// The command of this number, with the two words after its code. The numbers are the C interface's.
 #[tactic(auto, unfolding(refusing::specs::Commands::command_by))]
 fn command_by(k: u64, a: i64, b: i64) -> Command
     ensures { result ≡ command_by k a b }

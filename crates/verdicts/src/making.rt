@@ -11,6 +11,7 @@ ghost use Rattle.refusing.specs.Asked.{formula_in, owner_or};
 ghost use Rattle.refusing.specs.Numbers.{refused_as};
 ghost use Rattle.refusing.specs.Sight.{nodes_alone, sight_in};
 
+use counts::depths::MOST_OWNER_DEPTH;
 use counts::reserve::{plus, reserve};
 use counts::room::{cell_room, node_room, slot_room};
 use formula::cells::natural;
@@ -22,8 +23,6 @@ use primitive::words;
 use refusals::asks::{asks_of, cells_from};
 use refusing::asks::Asks;
 use refusing::refusal::Refusal;
-
-pub const MOST_OWNER_DEPTH: u64 = 16;
 
 // The cells of the command's formula; none at all if it has no formula.
 #[tactic(auto, using(refusing::proofs::CommandLaws::from_inside, refusing::proofs::MakingLaws::part_is), unfolding(refusing::specs::Asked::formula_in))]
