@@ -55,6 +55,7 @@ impl<'a, R: Read> Source<'a, R> {
     // Moves what is unread to the front, and says how many bytes that is.
     fn shift(&mut self) -> usize
         ensures same { self.new.buf.ghost_name ≡ self.old.buf.ghost_name }
+        ensures long { length self.new.buf.now ≡ length self.old.buf.now }
         ensures front { Front self.old.buf.now self.old.at self.old.end result self.new.buf.now }
     {
         let end = self.end.min(self.buf.len());
@@ -67,6 +68,7 @@ impl<'a, R: Read> Source<'a, R> {
     // then, as at its end and where there is no room.
     pub fn fill(&mut self, rt: &impl Eprint)
         ensures same { self.new.buf.ghost_name ≡ self.old.buf.ghost_name }
+        ensures long { length self.new.buf.now ≡ length self.old.buf.now }
         ensures filled { Filled self.old.buf.now self.old.at self.old.end self.new.at self.new.end self.new.over self.new.buf.now }
     {
         let n = self.shift();
@@ -90,6 +92,7 @@ impl<'a, R: Read> Source<'a, R> {
     // The next byte: the first that is unread, or one more read.
     pub fn next(&mut self, rt: &impl Eprint) -> Option<u8>
         ensures same { self.new.buf.ghost_name ≡ self.old.buf.ghost_name }
+        ensures long { length self.new.buf.now ≡ length self.old.buf.now }
         ensures taken { Taken self.old.buf.now self.old.at self.old.end result self.new.at self.new.end self.new.buf.now }
     {
         if self.unread().is_empty() && !self.over {

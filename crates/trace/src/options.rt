@@ -43,9 +43,14 @@ fn flag_at(rt: &impl Env, i: usize) -> Option<Flag> {
     flag_of(name.get(..n)?)
 }
 
-// The number that argument i spells, where it is `least` to `most`.
-fn number(rt: &impl Env, i: usize, least: u64, most: u64) -> Option<u64> {
-    number_argument(rt, i).filter(|n| least <= *n && *n <= most)
+// The number behind the flag at argument i, where it is `least` to `most`. From argument 1,000 on it is 0, whatever stands there.
+fn number(rt: &impl Env, i: usize, behind: Option<usize>, least: u64, most: u64) -> Option<u64> {
+    let n = if i < 1000 {
+        number_argument(rt, behind?)?
+    } else {
+        0
+    };
+    (least <= n && n <= most).then_some(n)
 }
 
 // The program's capacities where none are chosen; nothing where the arguments can't be read. The bounds are document 01's; rows may be 0.
@@ -60,10 +65,10 @@ pub(crate) fn from_arguments(rt: &impl Env) -> Option<Options> {
     let mut places = 1..argument_count(rt);
     while let Some(i) = places.next() {
         match flag_at(rt, i)? {
-            Flag::Nodes => chosen.nodes = number(rt, places.next()?, 1, MOST_NODES)?,
-            Flag::Links => chosen.links = number(rt, places.next()?, 1, MOST_SLOTS)?,
-            Flag::Cells => chosen.cells = number(rt, places.next()?, 1, MOST_CELL_ROOM)?,
-            Flag::Rows => chosen.rows = number(rt, places.next()?, 0, MOST_NODES)?,
+            Flag::Nodes => chosen.nodes = number(rt, i, places.next(), 1, MOST_NODES)?,
+            Flag::Links => chosen.links = number(rt, i, places.next(), 1, MOST_SLOTS)?,
+            Flag::Cells => chosen.cells = number(rt, i, places.next(), 1, MOST_CELL_ROOM)?,
+            Flag::Rows => chosen.rows = number(rt, i, places.next(), 0, MOST_NODES)?,
             Flag::Plain => chosen.tables = false,
             Flag::Many | Flag::Dump => {}
         }
