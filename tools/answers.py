@@ -244,6 +244,10 @@ def write(crate):
 SYSTEM = ('stream', 'simmer', 'trace')
 
 
+# what a generic function takes: a type with its laws and the members of its bounds, or a number that fits a word; no other premise
+ITS_TYPE = r'\(\w+ : (?:RattleType|ℕ)\)(?: \(\w+ : (?:(?:Laws|IsCopy) \w+|Fits w64 \w+|[\w.]*Ghosts \w+\.Denot|Dict)\))+'
+
+
 def theorem(crate, module, of, name):
     file = 'crates/tight/proofs/Of%s.antt' % crate.capitalize()
     text = open(file, encoding='utf-8').read() if os.path.isfile(file) else ''
@@ -252,7 +256,10 @@ def theorem(crate, module, of, name):
     kinds, reads = uses.get(where + '.Kinds'), uses.get(where + '.Reads')
     names = tuple(map(re.escape, (alias(module, of, name), kinds or '', kinds or '', reads or '')))
     typed = '(?:%s_)?' % '_'.join(t.lower() for t in of)  # where a free function has the method's name
-    stated = r'^pub one_' + typed + r'%s(?:_lem)? :\s+(?:OneAnswer\s+%s\.ps\s+%s\.r\s+%s\.Learnt|\(.*\) → OneAnswer \(%s\.ps [\w ]+\) \(%s\.r [\w ]+\) \(%s\.Learnt [\w ]+\))$' % (names + names[1:])
+    x = names[0]
+    plain = r'OneAnswer\s+%s\.ps\s+%s\.r\s+%s\.Learnt' % names[1:]
+    generic = ITS_TYPE + r' → OneAnswer \(%s\.ps [\w ]+\) \(%s\.r [\w ]+\) \(%s\.Learnt [\w ]+\)' % names[1:]
+    stated = r'^pub one_%s%s(?:_lem)? :\s+(?:%s|%s)$' % (typed, x, plain, generic)
     return bool(kinds and reads and re.search(stated, text, re.M))
 
 

@@ -23,3 +23,5 @@ pub mod OfPacks
 pub mod Spelled
 pub mod OfSeries
 pub mod OfHost
+pub mod Laws
+pub mod LineLaws
