@@ -1,5 +1,5 @@
-//! Which word of the tables is which: the list of `crates/primitive/src/rows.rt`, as far as it is read here. Record n is row n + 1;
-//! row 0 belongs to the table.
+//! Which word of the tables is which: the list of `crates/primitive/src/rows.rt`, and the words of the kinds in `kinds.rt` beside it, as far as
+//! they are read here. Record n is row n + 1; row 0 belongs to the table.
 
 /// Words in a row of the node table, and its fields.
 pub const NODE: usize = 16;
@@ -43,19 +43,29 @@ mod tests {
     /// The name and the value of a line `pub const NAME: TYPE = VALUE;`.
     fn constant(line: &str) -> Option<(&str, &str)> {
         let (name, rest) = line.strip_prefix("pub const ")?.split_once(": ")?;
-        Some((name, rest.split_once(" = ")?.1))
+        Some((name, rest.split_once(" = ")?.1.trim_end_matches(';')))
+    }
+
+    /// The name, in capitals, and the word of a line `Kind::Name => WORD,`.
+    fn kind(line: &str) -> Option<(String, String)> {
+        let (name, rest) = line.trim().strip_prefix("Kind::")?.split_once(" => ")?;
+        Some((name.to_uppercase(), rest.trim_end_matches(',').to_string()))
     }
 
     #[test]
     fn as_the_engine_has_them() {
-        let engine: Vec<(&str, &str)> = include_str!("../../../crates/primitive/src/rows.rt")
+        let rows = include_str!("../../../crates/primitive/src/rows.rt")
             .lines()
             .filter_map(constant)
-            .collect();
+            .map(|(name, value)| (name.to_string(), value.to_string()));
+        let kinds = include_str!("../../../crates/primitive/src/kinds.rt")
+            .lines()
+            .filter_map(kind);
+        let engine: Vec<(String, String)> = rows.chain(kinds).collect();
         let mut compared = 0;
         for (name, value) in include_str!("rows.rs").lines().filter_map(constant) {
-            if let Some((_, theirs)) = engine.iter().find(|(theirs, _)| *theirs == name) {
-                assert_eq!(value, *theirs, "{name}");
+            if let Some((_, theirs)) = engine.iter().find(|(theirs, _)| theirs == name) {
+                assert_eq!(value, theirs, "{name}");
                 compared += 1;
             }
         }
