@@ -6,6 +6,7 @@ use mir.Val.{to_z, of_z}
 use mir.Facts.{to_z-of_z}
 use Rattle.std.proofs.Common.{w64, None}
 use Rattle.refusing.specs.declared.asks.Asks.TheVariants.{Makes}
+use Rattle.meaning.specs.Refusals.{is_gone}
 use Rattle.refusing.specs.Sight.{nodes_alone}
 use Rattle.refusing.proofs.AskLaws.{gone_names, gone_spared, gone_makes, gone_none, gone_nothing}
 use Rattle.refusals.proofs.naming.gone_node.Goals as goal
@@ -25,7 +26,7 @@ returns-in-Makes-default-Some-default c =
     let m = c.in-Makes-default-Some-default in
     let g = c.is_gone-in-Makes-default-Some-default in
     let o : to_z w64 (of_z w64 m.owner) ≡ m.owner = to_z-of_z {w = w64} (search rules) in
-    gone_makes (nodes_alone a.nodes.now) a.words.now _ c.asks_of.ensures (m.is ∙ ap (λ o. Makes m.kind o m.from) m.owner-is) (rw o at g.ensures)
+    gone_makes (nodes_alone a.nodes.now) a.words.now _ c.asks_of.ensures (m.is ∙ ap (λ o. Makes m.kind o m.from) m.owner-is) (g.ensures ∙ ap (is_gone (nodes_alone a.nodes.now)) o)
 
 pub returns-in_default : goal.returns-in_default
 returns-in_default c =
