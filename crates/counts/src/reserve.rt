@@ -20,23 +20,30 @@ fn owned(owner: u64) -> u64
     u64::from(owner != 0)
 }
 
-// Twice the read cells: on a rerun old links stay until the purge. A gone effect or scope counts nothing.
+// Twice the read cells: on a rerun old links stay until the purge. A gone effect or scope counts nothing. A word is read where its kind asks
+// for it: each node that is made counts all nodes.
 #[tactic(auto, unfolding(counting::specs::Counts::reserve_of))]
 pub fn reserve_of(nodes: &[u64], n: u64) -> u64
     ensures { result ≡ min top (reserve_of nodes.now n) }
 {
-    let reads = words::get(nodes, NODE, n, READS);
-    let gone = words::get(nodes, NODE, n, GONE) != 0;
-    let link = owned(words::get(nodes, NODE, n, OWNER));
     match Kind::of_word(words::get(nodes, NODE, n, KIND)) {
         Some(Kind::Signal) => 0,
-        Some(Kind::Computed) => plus(reads, reads),
-        Some(Kind::Effect) => if gone {
+        Some(Kind::Computed) => {
+            let reads = words::get(nodes, NODE, n, READS);
+            plus(reads, reads)
+        }
+        Some(Kind::Effect) => if words::get(nodes, NODE, n, GONE) != 0 {
             0
         } else {
-            plus(plus(reads, reads), link)
+            let named = words::get(nodes, NODE, n, READS);
+            let link = owned(words::get(nodes, NODE, n, OWNER));
+            plus(plus(named, named), link)
         },
-        Some(Kind::Scope) | None => if gone { 0 } else { link },
+        Some(Kind::Scope) | None => if words::get(nodes, NODE, n, GONE) != 0 {
+            0
+        } else {
+            owned(words::get(nodes, NODE, n, OWNER))
+        },
     }
 }
 
