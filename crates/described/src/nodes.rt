@@ -66,9 +66,14 @@ fn node(nodes: &[u64], cells: &[i64], n: u64) -> bool
     }
 }
 
-// The nodes below `count`.
+// The nodes below `count`, from the last one down: the first that is not as its kind asks ends it.
 pub fn every_node(nodes: &[u64], cells: &[i64], count: u64) -> bool
     ensures { result ≡ nodes_in nodes.now cells.now count }
 {
-    (0..count).all(|n| node(nodes, cells, n))
+    for n in (0..count).rev() {
+        if !node(nodes, cells, n) {
+            return false;
+        }
+    }
+    true
 }

@@ -12,10 +12,23 @@ use Rattle.primitive.specs.Rows.{field}
 use Rattle.trees.specs.Cells.{name_of, cell_at, or_else}
 use Rattle.trees.specs.Names.{named}
 use Rattle.trees.proofs.CellLaws.{cell_out}
+use Rattle.trees.specs.Legal.{readable_in}
+use Rattle.lists.specs.Each.{tally}
 use Rattle.lists.specs.Once.{stamp}
+use Rattle.lists.proofs.SumLaws.{bit_le}
 use Rattle.resting.specs.Depends.{reads_kind}
 use Rattle.counting.specs.Counts.{counted_in, slot_room}
-use Rattle.resting.specs.Named.{names_of, stamp_cell, stamp_cells, stamp_node, links_stamped, named_from}
+use Rattle.resting.specs.Named.{is_read_link, reads_from, names_of, stamp_cell, stamp_cells, stamp_node, links_stamped, named_from}
+
+pub read_most : (t l : List ℕ) (x r : ℕ) → r ≡ is_read_link t l x → r ≤ 1
+unfolding is_read_link
+read_most t l x r e = omega (arith, e, bit_le (readable_in t (field 8 l x 1)))
+
+-- the read links from a link on are that link, if it is one, and those behind it
+pub read_first : (t l : List ℕ) (w x b : ℕ) → slot_room l ≡ suc b → w ≡ suc x
+    → reads_from t l w ≡ is_read_link t l x + tally (λ (y : ℕ). field 8 l y 6) (λ (y : ℕ). readable_in t (field 8 l y 1)) b (field 8 l x 6)
+unfolding reads_from is_read_link tally
+read_first t l w x b e f = rw (e, f)
 
 module _ (c : List ℤ) (s : List ℕ) (v i : ℕ) where
   pub cell_none : {r : Option ℕ} → r ≡ name_of (cell_at c i) → r ≡ None → s ≡ stamp_cell c s v i

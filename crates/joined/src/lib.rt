@@ -34,10 +34,16 @@ fn rests_at(nodes: &[u64], links: &[u64], n: u64) -> bool
         && flagged_at(nodes, links, n)
 }
 
+// From the last node down: the first that is not at rest ends it.
 fn rest(nodes: &[u64], links: &[u64]) -> bool
     ensures { result ≡ rest_in nodes.now links.now }
 {
-    (0..room::counted(nodes)).all(|n| rests_at(nodes, links, n))
+    for n in (0..room::counted(nodes)).rev() {
+        if !rests_at(nodes, links, n) {
+            return false;
+        }
+    }
+    true
 }
 
 #[tactic(auto, unfolding(resting::specs::Joined::joined_in))]

@@ -7,7 +7,7 @@ use mathlib.Core.Path.{◌≡◌, refl, sym, ap, ◌∙◌}
 use mathlib.Core.Logic.{◌⊎◌, inl, inr}
 use mathlib.Core.Bool.{Bool, true, false}
 use mathlib.Core.List.{List, [], ◌∷◌}
-use Prim.Native.Nat.{ℕ, zero, suc, ◌+◌, ◌<◌, ◌≤◌}
+use Prim.Native.Nat.{ℕ, zero, suc, ◌+◌, ◌-◌, ◌<◌, ◌≤◌}
 use native.Mathlib.Omega.{arith}
 use lib.Dec.{eqb}
 use lib.ListN.{length}
@@ -150,6 +150,29 @@ fold_more g z a zero = ap (g z) (omega arith)
 fold_more g z a (suc n) =
     let e : a + 1 + n ≡ a + suc n = omega arith in
     fold_more g (g z a) (a + 1) n ∙ ap (g (fold g (g z a) (range_with_len (a + 1) n))) e
+
+-- ---- the ways through one turn of a loop from the last number down
+module _ (p : ℕ → Bool) where
+  pub every_end : (k : ℕ) → k ≤ 0 → every p k ≡ true
+  unfolding every
+  every_end zero h = refl
+  every_end (suc k) h = absurd (omega arith)
+
+  pub every_bad : (k : ℕ) → 0 < k → p (k - 1) ≡ false → every p k ≡ false
+  unfolding every
+  every_bad zero h e = absurd (omega arith)
+  every_bad (suc k) h e =
+      let m : suc k - 1 ≡ k = omega arith in
+      let f : p k ≡ false = rw m at e in
+      rw (f, every)
+
+  pub every_more : (k : ℕ) → 0 < k → p (k - 1) ≡ true → every p k ≡ every p (k - 1)
+  unfolding every
+  every_more zero h e = absurd (omega arith)
+  every_more (suc k) h e =
+      let m : suc k - 1 ≡ k = omega arith in
+      let f : p k ≡ true = rw m at e in
+      rw (m, f, every)
 
 pub all_every : (p : ℕ → Bool) (n : ℕ) → list_all p (range_with_len 0 n) ≡ every p n
 unfolding every

@@ -1,13 +1,17 @@
 -- `joined::rest` meets its contract. Assumes nothing.
-use Rattle.std.proofs.Common.{rules, tests, arith, refl, ◌∙◌}
-use Rattle.std.proofs.lemmas.Iterator.{YieldsList-from_range}
-use Rattle.std.proofs.lemmas.Iterator.Search.{all_from_yields_List}
-use Rattle.lists.proofs.EachLaws.{all_every}
-use Rattle.resting.specs.Joined.{rests_at, rest_in}
+use Rattle.lists.proofs.EachLaws.{every_end, every_bad, every_more}
+use Rattle.resting.specs.Joined.{rest_in}
+use mathlib.Core.Path.{sym, ◌∙◌}
+use native.Mathlib.Omega.{arith}
 use Rattle.joined.proofs.rest.Goals as goal
+
+pub returns-then-not-rests_at : goal.returns-then-not-rests_at
+unfolding rest_in
+returns-then-not-rests_at c = sym (c.loop-n.invariant ∙ every_bad _ c.loop-n.n (omega arith) (sym c.rests_at.ensures ∙ c.if-not-rests_at.true))
+
+pub loop-n-preserved : goal.loop-n-preserved
+loop-n-preserved c = c.loop-n.invariant ∙ every_more _ c.loop-n.n (omega arith) (sym c.rests_at.ensures ∙ c.if-not-rests_at.false)
 
 pub returns : goal.returns
 unfolding rest_in
-returns c =
-    let n = c.counted.result in
-    rw (← c.counted.ensures) (all_from_yields_List (rests_at c.args.nodes.now c.args.links.now) _ _ _ c.all.ensures.ran (YieldsList-from_range 0 n n refl (omega arith)) (λ x b q k. search (rules, tests)) ∙ all_every (rests_at c.args.nodes.now c.args.links.now) n)
+returns c = sym (c.loop-n.invariant ∙ every_end _ c.loop-n.n c.loop-n-test.false)

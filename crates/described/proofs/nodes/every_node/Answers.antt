@@ -1,12 +1,14 @@
 -- `described::nodes::every_node` meets its contract. Assumes nothing.
-use Rattle.std.proofs.Common.{rules, tests, arith, refl, ◌∙◌}
-use Rattle.std.proofs.lemmas.Iterator.{YieldsList-from_range}
-use Rattle.std.proofs.lemmas.Iterator.Search.{all_from_yields_List}
-use Rattle.telling.specs.Nodes.{node_in}
-use Rattle.described.proofs.NodeLaws.{every_node_range}
+use Rattle.described.proofs.NodeLaws.{every_done, every_false, every_true}
+use mathlib.Core.Path.{refl, sym, ◌∙◌}
+use native.Mathlib.Omega.{arith}
 use Rattle.described.proofs.nodes.every_node.Goals as goal
 
+pub returns-then-not-node : goal.returns-then-not-node
+returns-then-not-node c = sym (every_false _ _ c.loop-n.n (omega arith) c.node.ensures c.if-not-node.true) ∙ c.loop-n.invariant
+
+pub loop-n-preserved : goal.loop-n-preserved
+loop-n-preserved c = sym (every_true _ _ c.loop-n.n (omega arith) c.node.ensures c.if-not-node.false) ∙ c.loop-n.invariant
+
 pub returns : goal.returns
-returns c =
-    let n = c.args.count in
-    all_from_yields_List (node_in c.args.nodes.now c.args.cells.now) _ _ _ c.all.ensures.ran (YieldsList-from_range 0 n n refl (omega arith)) (λ x b q k. search (rules, tests)) ∙ every_node_range c.args.nodes.now c.args.cells.now n
+returns c = sym (every_done _ _ c.loop-n.n c.loop-n-test.false) ∙ c.loop-n.invariant
