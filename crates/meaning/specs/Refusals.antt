@@ -45,7 +45,7 @@ pub record Asks : Type 0 where
   pub takes : Kind → Bool  -- of which kinds
   pub ends : Bool  -- to dispose it
   pub makes : Option Kind  -- a new node
-  pub owner : ℤ  -- with this owner, -1 if None
+  pub owner : ℤ  -- with this owner, -1 if none
   pub cells : Option (List ℤ)  -- and this formula
   pub barred : ℕ → Bool  -- at which depths it cannot be
   pub rows : Sight → ℕ  -- the log rows that it wants

@@ -12,10 +12,10 @@ fn digits_of(s: &[u8]) -> Option<u64>
 {
     let mut v: u64 = 0;
     for b in s {
-        if !b.is_ascii_digit() {
+        if !b.is_ascii_digit() || LARGEST / 10 < v {
             return None;
         }
-        v = v.checked_mul(10)?.checked_add(u64::from(*b - b'0'))?;
+        v = v * 10 + u64::from(*b - b'0');
     }
     (v <= LARGEST).then_some(v)
 }
