@@ -8,12 +8,12 @@ mod word;
 
 use engine::command::{Answer, command};
 use operations::emptying::empty;
-use read::{Stop, Words};
+use read::{Sizes, Stop, Words};
 use show::Page;
 use std::env::Env;
 use std::io;
 use std::io::{Input, Read};
-use stream::{Sink, Source, argument, argument_count};
+use stream::{Outlet, Source, argument, argument_count};
 
 // What is done with a block.
 #[derive(Clone, Copy, PartialEq, Eq, Debug)]
@@ -54,7 +54,7 @@ impl Tables<'_> {
 
     fn show(&self, rt: &(impl Print + Eprint), answer: Answer) -> Result<(), Stop> {
         let mut out = [0; 8192];
-        let mut page = Page::new(rt, Sink::new(io::writer(rt), &mut out));
+        let mut page = Page::new(rt, Outlet::new(io::writer(rt), &mut out));
         let whole = page
             .answer(answer)
             .and_then(|()| page.table("nodes=", self.nodes))
@@ -66,13 +66,14 @@ impl Tables<'_> {
     }
 }
 
-// One block, on tables of its lengths. Room for one node, one slot and one cell more than the host's; tables that are longer can't be read.
+// The rest of a block, on tables of its lengths. Room for one node, one slot and one cell more than the host's; tables that are longer can't
+// be read. Nothing stands before the tables: what may return before them has them cleared twice.
 fn block<R: Read + Drop>(
     rt: &(impl Print + Eprint),
     source: &mut Words<R>,
+    sizes: Sizes,
     task: Task,
 ) -> Result<(), Stop> {
-    let sizes = source.lengths(rt)?;
     let mut nodes = [0u64; 16448];
     let mut links = [0u64; 65600];
     let mut values = [0i64; 4128];
@@ -89,6 +90,15 @@ fn block<R: Read + Drop>(
     };
     let answer = tables.done(task);
     tables.show(rt, answer)
+}
+
+fn next_block<R: Read + Drop>(
+    rt: &(impl Print + Eprint),
+    source: &mut Words<R>,
+    task: Task,
+) -> Result<(), Stop> {
+    let sizes = source.lengths(rt)?;
+    block(rt, source, sizes, task)
 }
 
 // What the arguments ask for.
@@ -111,7 +121,7 @@ fn run(rt: &(impl Input + Print + Eprint), task: Task) {
     let mut buf = [0; 16384];
     let mut source = Words::new(Source::new(rt.reader(), &mut buf));
     for _ in 0..u64::MAX {
-        if let Err(stop) = block(rt, &mut source, task) {
+        if let Err(stop) = next_block(rt, &mut source, task) {
             if stop == Stop::Misread {
                 let _ = rt.eprintln("probe: no such block");
             }

@@ -4,17 +4,17 @@ use crate::word::Word;
 use engine::command::Answer;
 use std::fmt::Write;
 use std::{fmt, io};
-use stream::Sink;
+use stream::Outlet;
 
 // A buffer before the standard output.
 #[derive(Drop)]
 pub(crate) struct Page<'a, P, W> {
     rt: &'a P,
-    to: Sink<'a, W>,
+    to: Outlet<'a, W>,
 }
 
 impl<'a, P: Eprint, W: io::Write> Page<'a, P, W> {
-    pub(crate) fn new(rt: &'a P, to: Sink<'a, W>) -> Self {
+    pub(crate) fn new(rt: &'a P, to: Outlet<'a, W>) -> Self {
         Page { rt, to }
     }
 
@@ -39,7 +39,7 @@ impl<'a, P: Eprint, W: io::Write> Page<'a, P, W> {
     // Whether all fitted, and was written.
     pub(crate) fn sent(&mut self, whole: fmt::Result) -> Result<(), Stop> {
         self.to.flush(self.rt);
-        if whole.is_ok() && self.to.ok {
+        if whole.is_ok() && self.to.sink.ok {
             Ok(())
         } else {
             Err(Stop::Unwritten)

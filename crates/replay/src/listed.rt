@@ -4,7 +4,7 @@ use std::env::Env;
 use std::fmt::Write;
 use std::rt::Files;
 use std::{fs, io, str};
-use stream::{Sink, argument, fail, number_argument};
+use stream::{Outlet, argument, fail, number_argument};
 use text::answers::put_all;
 
 // Document 01's capacities.
@@ -81,8 +81,8 @@ pub(crate) fn open<R: Files + Env + Eprint>(rt: &R, i: usize, ending: &[u8]) -> 
 pub(crate) fn tell(rt: &(impl Env + Print + Eprint), i: usize, tally: Tally) {
     let mut out = [0u8; 512];
     let n = argument(rt, i, &mut out).unwrap_or(0);
-    let mut to = Sink::new(io::writer(rt), &mut out);
-    to.at = n;
+    let mut to = Outlet::new(io::writer(rt), &mut out);
+    to.sink.at = n;
     let Tally {
         scripts,
         answers,

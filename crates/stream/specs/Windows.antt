@@ -1,5 +1,5 @@
 -- A window on the input: a buffer, of which the bytes from `at` up to `end` are read and not yet used. Assumes nothing.
-use Rattle.std.specs.Prelude.{ℕ, ◌+◌, ◌≤◌, ◌<◌, ◌≡◌, Bool, true, List, Option, Some, length, get_or, take}
+use Rattle.std.specs.Prelude.{ℕ, ◌+◌, ◌-◌, ◌≤◌, ◌<◌, ◌≡◌, ◌++◌, Bool, true, List, Option, Some, length, get_or, take}
 use Rattle.std.proofs.Math.Seq.{slice}
 
 -- What is unread, as far as the buffer goes.
@@ -24,6 +24,13 @@ pub record Filled (before : List ℕ) (at end at' end' : ℕ) (over : Bool) (aft
 pub record Spilled (long at at' : ℕ) : Type 0 where
   pub kept : at + 256 ≤ long → at' ≡ at
   pub spilled : long < at + 256 → at' ≡ 0
+
+-- Text found no room: what fits of it stands behind what was there, and the buffer is full. A buffer that says to be more than full stays as it is.
+pub record Cut (before : List ℕ) (at : ℕ) (text : List ℕ) (at' : ℕ) (after : List ℕ) : Type 0 where
+  pub fits : at ≤ length before → take (length before) after ≡ take at before ++ take (length before - at) text
+  pub full : at ≤ length before → at' ≡ length before
+  pub stays : length before < at → at' ≡ at
+  pub same : length before < at → after ≡ before
 
 -- Where a byte is unread it is the next, and nothing else changes.
 pub record Taken (before : List ℕ) (at end : ℕ) (byte : Option ℕ) (at' end' : ℕ) (after : List ℕ) : Type 0 where

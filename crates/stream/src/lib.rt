@@ -1,8 +1,8 @@
 #![tactic(auto)]
 
 // Readers and writers: what was read and not yet used, and all of what is to be written. What the system reads or writes, no contract can say.
-ghost use Rattle.std.specs.Prelude.{length, ◌+◌, ◌++◌, ◌^◌, ◌<◌, ◌≤◌, min, max, true, false, ◌≡◌, take, IfSome};
-ghost use Rattle.stream.specs.Windows.{Front, Filled, Spilled, Taken, unread};
+ghost use Rattle.std.specs.Prelude.{length, ◌+◌, ◌++◌, ◌^◌, ◌<◌, ◌≤◌, min, max, true, false, ◌≡◌, take, IfSome, IsOk, OnErr};
+ghost use Rattle.stream.specs.Windows.{Cut, Front, Filled, Spilled, Taken, unread};
 
 use std::env::{Env, FillError};
 use std::fmt::InlineText;
@@ -95,7 +95,7 @@ impl<'a, R: Read> Source<'a, R> {
         ensures long { length self.new.buf.now ≡ length self.old.buf.now }
         ensures taken { Taken self.old.buf.now self.old.at self.old.end result self.new.at self.new.end self.new.buf.now }
     {
-        if self.unread().is_empty() && !self.over {
+        if self.end.min(self.buf.len()) <= self.at && !self.over {
             self.fill(rt);
         }
         let byte = *self.unread().first()?;
@@ -137,25 +137,31 @@ pub fn send<W: Write>(rt: &impl Eprint, to: &mut W, out: &[u8], n: usize) -> boo
     }
 }
 
-// A writer, and the buffer that is filled up to `at` before it is written. `ok`: all that left it was written. A failed write is told, and what
-// comes behind it is written nevertheless, so this is kept and no error handed on.
-#[derive(Drop)]
-pub struct Sink<'a, W> {
-    pub to: W,
-    pub out: &'a mut [u8],
+// How much of a buffer is filled, and whether all that left it was written.
+#[derive(Clone, Copy)]
+pub struct Sink {
     pub at: usize,
     pub ok: bool,
 }
 
-impl<'a, W: Write> Sink<'a, W> {
-    pub fn new(to: W, out: &'a mut [u8]) -> Sink<'a, W>
-        ensures { result ≡ record { to = to; out = out.entry; at = 0; ok = true } }
+// A writer, and the buffer that is filled before it is written. A failed write is told, and what comes behind it is written nevertheless, so
+// the sink keeps that, and no error is handed on.
+#[derive(Drop)]
+pub struct Outlet<'a, W> {
+    pub to: W,
+    pub out: &'a mut [u8],
+    pub sink: Sink,
+}
+
+impl<'a, W: Write> Outlet<'a, W> {
+    // The buffer is empty yet.
+    pub fn new(to: W, out: &'a mut [u8]) -> Outlet<'a, W>
+        ensures { result ≡ record { to = to; out = out.entry; sink = record { at = 0; ok = true } } }
     {
-        Sink {
+        Outlet {
             to,
             out,
-            at: 0,
-            ok: true,
+            sink: Sink { at: 0, ok: true },
         }
     }
 
@@ -163,34 +169,42 @@ impl<'a, W: Write> Sink<'a, W> {
     pub fn flush(&mut self, rt: &impl Eprint)
         ensures same { self.new.out.ghost_name ≡ self.old.out.ghost_name }
         ensures out { self.new.out.now ≡ self.old.out.now }
-        ensures at { self.new.at ≡ 0 }
+        ensures at { self.new.sink.at ≡ 0 }
     {
-        let at = self.at;
+        let Sink { at, ok } = self.sink;
         let out = &mut *self.out;
         let sent = send(rt, &mut self.to, out, at);
-        self.ok = self.ok && sent;
-        self.at = 0;
+        self.sink = Sink {
+            at: 0,
+            ok: ok && sent,
+        };
     }
 
     // Writes what is there unless room for 256 bytes is left.
     pub fn spill(&mut self, rt: &impl Eprint)
         ensures same { self.new.out.ghost_name ≡ self.old.out.ghost_name }
         ensures out { self.new.out.now ≡ self.old.out.now }
-        ensures spilled { Spilled (length self.old.out.now) self.old.at self.new.at }
+        ensures spilled { Spilled (length self.old.out.now) self.old.sink.at self.new.sink.at }
     {
-        if self.out.len().saturating_sub(256) < self.at || self.out.len() < 256 {
+        if self.out.len().saturating_sub(256) < self.sink.at || self.out.len() < 256 {
             self.flush(rt);
         }
     }
 }
 
-// Puts text into the buffer. What finds no room is left out, and the answer is an error then.
-impl<W: Write> fmt::Write for Sink<'_, W> {
-    ghost write_str_gives = { λ s bs t. (t.out.ghost_name ≡ s.out.ghost_name) × (t.ok ≡ s.ok) × (t.at ≡ s.at + length bs) × (take t.at t.out.now ≡ take s.at s.out.now ++ bs) };
+// Puts text into the buffer. What finds no room is left out, and the answer is an error then, and only then.
+impl<W: Write> fmt::Write for Outlet<'_, W> {
+    ghost write_str_gives = { λ s bs t. (t.out.ghost_name ≡ s.out.ghost_name) × (t.sink.ok ≡ s.sink.ok) × (t.sink.at ≡ s.sink.at + length bs) × (take t.sink.at t.out.now ≡ take s.sink.at s.out.now ++ bs) };
 
-    fn write_str(&mut self, s: &str) -> fmt::Result {
+    fn write_str(&mut self, s: &str) -> fmt::Result
+        ensures ok { IsOk result → (self.new.out.ghost_name ≡ self.old.out.ghost_name) × (self.new.sink.ok ≡ self.old.sink.ok) × (self.new.sink.at ≡ self.old.sink.at + length s.now) × (take self.new.sink.at self.new.out.now ≡ take self.old.sink.at self.old.out.now ++ s.now) }
+        ensures full { OnErr result (length self.old.out.now < self.old.sink.at + length s.now) }
+        ensures cut { OnErr result (Cut self.old.out.now self.old.sink.at s.now self.new.sink.at self.new.out.now) }
+        ensures kept { self.new.sink.ok ≡ self.old.sink.ok }
+        ensures same { self.new.out.ghost_name ≡ self.old.out.ghost_name }
+    {
         let text = s.as_bytes();
-        let at = self.at;
+        let at = self.sink.at;
         let out = &mut *self.out;
         if out.len() < at {
             return Err(fmt::Error);
@@ -198,7 +212,7 @@ impl<W: Write> fmt::Write for Sink<'_, W> {
         let n = text.len().min(out.len() - at);
         let end = at + n;
         out[at..end].copy_from_slice(&text[..n]);
-        self.at = end;
+        self.sink.at = end;
         if n < text.len() {
             return Err(fmt::Error);
         }

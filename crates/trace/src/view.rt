@@ -5,9 +5,9 @@ use primitive::rows::{
     CYCLE, DEP, DEPS, DEPTH, FLAGS, KIND, LINK, NEXT_DEP, NEXT_SUB, NODE, SUB, SUBS, VERSION,
 };
 use primitive::words;
-use std::fmt::Write;
-use std::{fmt, io};
-use stream::Sink;
+use std::io;
+use stream::Outlet;
+use text::answers::{put_all, put_integer, put_natural};
 
 // The tables that are shown.
 #[derive(Clone, Copy)]
@@ -25,6 +25,27 @@ struct List {
     other: u64,
 }
 
+// Text and numbers go straight into the buffer, where `spill` left room for a part of a line: `write!` takes a third longer over a dump.
+fn put<W>(to: &mut Outlet<W>, text: &[u8]) {
+    let at = to.sink.at;
+    let out = &mut *to.out;
+    to.sink.at = put_all(out, at, text);
+}
+
+fn put_number<W>(to: &mut Outlet<W>, key: &[u8], n: u64) {
+    put(to, key);
+    let at = to.sink.at;
+    let out = &mut *to.out;
+    to.sink.at = put_natural(out, at, n);
+}
+
+fn put_value<W>(to: &mut Outlet<W>, key: &[u8], v: i64) {
+    put(to, key);
+    let at = to.sink.at;
+    let out = &mut *to.out;
+    to.sink.at = put_integer(out, at, v);
+}
+
 impl View<'_> {
     fn node(&self, n: u64, field: u64) -> u64 {
         words::get(self.nodes, NODE, n, field)
@@ -39,90 +60,82 @@ impl View<'_> {
     }
 
     // The nodes at the other ends of a list of links, and the links' versions. No list has more links than the table has words.
-    fn list<W: io::Write>(&self, rt: &impl Eprint, to: &mut Sink<W>, list: List) -> fmt::Result {
+    fn list<W: io::Write>(&self, rt: &impl Eprint, to: &mut Outlet<W>, list: List) {
         let List { head, next, other } = list;
         let mut word = head;
         for _ in 0..self.links.len() {
             if word == 0 {
-                return Ok(());
+                return;
             }
             let slot = word - 1;
             to.spill(rt);
-            let comma = if word == head { "" } else { "," };
-            let dep = self.link(slot, other);
-            let version = self.link(slot, VERSION);
-            write!(to, "{comma}{dep}:{version}")?;
+            let comma: &[u8] = if word == head { b"" } else { b"," };
+            put_number(to, comma, self.link(slot, other));
+            put_number(to, b":", self.link(slot, VERSION));
             word = self.link(slot, next);
         }
-        Ok(())
     }
 
-    fn queue<W: io::Write>(&self, rt: &impl Eprint, to: &mut Sink<W>) -> fmt::Result {
+    fn queue<W: io::Write>(&self, rt: &impl Eprint, to: &mut Outlet<W>) {
         for i in 0..queue::length(self.nodes) {
             to.spill(rt);
-            let comma = if i == 0 { "" } else { "," };
-            let entry = queue::entry(self.nodes, i);
-            write!(to, "{comma}{entry}")?;
+            let comma: &[u8] = if i == 0 { b"" } else { b"," };
+            put_number(to, comma, queue::entry(self.nodes, i));
         }
-        Ok(())
     }
 
     // What a node is worth, and a signal's pending value.
-    fn worth<W: io::Write>(&self, to: &mut Sink<W>, n: u64) -> fmt::Result {
+    fn worth<W: io::Write>(&self, to: &mut Outlet<W>, n: u64) {
         if n > 1024 {
-            return Ok(());
+            return;
         }
-        let value = self.value(n * 2);
         match Kind::of_word(self.node(n, KIND)) {
             Some(Kind::Signal) => {
-                let pending = self.value(n * 2 + 1);
-                write!(to, " value={value} pending={pending}")
+                put_value(to, b" value=", self.value(n * 2));
+                put_value(to, b" pending=", self.value(n * 2 + 1));
             }
             Some(Kind::Computed) if self.node(n, FLAGS) != 0 => {
-                write!(to, " value={value} pending=none")
+                put_value(to, b" value=", self.value(n * 2));
+                put(to, b" pending=none");
             }
-            _ => to.write_str(" value=none pending=none"),
+            _ => put(to, b" value=none pending=none"),
         }
     }
 
-    fn line<W: io::Write>(&self, rt: &impl Eprint, to: &mut Sink<W>, n: u64) -> fmt::Result {
+    fn line<W: io::Write>(&self, rt: &impl Eprint, to: &mut Outlet<W>, n: u64) {
         to.spill(rt);
-        let flags = self.node(n, FLAGS);
-        write!(to, "\nnode={n} flags={flags}")?;
-        self.worth(to, n)?;
-        to.write_str(" deps=")?;
+        put_number(to, b"\nnode=", n);
+        put_number(to, b" flags=", self.node(n, FLAGS));
+        self.worth(to, n);
+        put(to, b" deps=");
         let deps = List {
             head: self.node(n, DEPS),
             next: NEXT_DEP,
             other: DEP,
         };
-        self.list(rt, to, deps)?;
-        to.write_str(" subs=")?;
+        self.list(rt, to, deps);
+        put(to, b" subs=");
         let subs = List {
             head: self.node(n, SUBS),
             next: NEXT_SUB,
             other: SUB,
         };
-        self.list(rt, to, subs)
-    }
-
-    fn whole<W: io::Write>(&self, rt: &impl Eprint, to: &mut Sink<W>) -> fmt::Result {
-        let depth = words::at(self.nodes, DEPTH);
-        let cycle = words::at(self.links, CYCLE);
-        write!(to, "depth={depth}\ncycle={cycle}\nqueue=")?;
-        self.queue(rt, to)?;
-        for n in 0..counted(self.nodes) {
-            self.line(rt, to, n)?;
-        }
-        to.write_str("\n")
+        self.list(rt, to, subs);
     }
 
     // Whether all was written.
     pub(crate) fn dump(&self, rt: &(impl Print + Eprint)) -> bool {
         let mut out = [0u8; 8192];
-        let mut to = Sink::new(io::writer(rt), &mut out);
-        let fitted = self.whole(rt, &mut to).is_ok();
+        let mut to = Outlet::new(io::writer(rt), &mut out);
+        put_number(&mut to, b"depth=", words::at(self.nodes, DEPTH));
+        put_number(&mut to, b"\ncycle=", words::at(self.links, CYCLE));
+        put(&mut to, b"\nqueue=");
+        self.queue(rt, &mut to);
+        for n in 0..counted(self.nodes) {
+            self.line(rt, &mut to, n);
+        }
+        put(&mut to, b"\n");
         to.flush(rt);
-        fitted && to.ok
+        to.sink.ok
     }
 }
