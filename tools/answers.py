@@ -3,15 +3,16 @@
 A function that another crate can name: a theorem of crates/tight/proofs, `pub one_NAME : OneAnswer KINDS.ps KINDS.r READS.Learnt`, where KINDS and
 READS are the function's own modules, and Learnt is what its contract tells a caller, as the checker reads it; that it holds is the checker's
 word, this only finds it. A generic function has it at each type: the three take the type and what is known of it. So has a method of a trait of
-ours, at each of its impls. One that no other crate can name, as the exports of a static library, or of a crate that reaches the system: by the
-form of its contract, an equation for the answer and for each `&mut`; or by a law of crates/tight/proofs/Rings.antt. An exception stands in
-docs/ONE-ANSWER.md, with its reason.
+ours, at each of its impls, and a method of a library's impl of a trait of others, as `from`. One that no other crate can name, as the exports of
+a static library, or of a crate that reaches the system: by the form of its contract, an equation for the answer and for each `&mut`; or by a law
+of crates/tight/proofs/Rings.antt. An exception stands in docs/ONE-ANSWER.md, with its reason.
 `answers.py CRATE` prints the theorems of a crate, as they are proved where the contract is an equation."""
 import os
 import re
 import sys
 
 BUILDERS = {}  # record builders of the definitions: name -> fields in order
+SHOWN = {}  # of a method of an impl of a trait of others: the type, by which a page names it
 
 
 def builders():
@@ -61,6 +62,15 @@ def functions(crate):
                 head = re.search(r'fn %s\b(.*?);$' % name, trait.group(0), re.M | re.S).group(1)
                 stem = f[:-3]
                 yield [stem], [m.group(2).capitalize() + m.group(1)], name, re.sub(r'\s+', ' ', head).strip(), text
+        # an impl of a trait of others, as From: what it promises is the trait's clause, with the ghost members that stand in the impl
+        for m in re.finditer(r'^impl(?:<[^>]*>)? (?:\w+::)*(\w+)(<.*>)? for (\w+)(?:<[^>]*>)? \{$(.*?)^\}', text, re.M | re.S):
+            if re.search(r'^pub trait %s\b' % m.group(1), text, re.M) or not os.path.isfile(src + '/lib.rt'):
+                continue
+            stem = f[:-3]
+            of = m.group(3)[0].upper() + m.group(3)[1:] + m.group(1) + re.sub(r'\W', '', m.group(2) or '')
+            for name in re.findall(r'^    fn (\w+)', m.group(4), re.M):
+                SHOWN[crate, of, name] = m.group(3)
+                yield ([] if stem in ('lib', 'main') else [stem]), [of], name, '', text
 
 
 def exported(crate, module):
@@ -256,7 +266,7 @@ def theorem(crate, module, of, name):
     kinds, reads = uses.get(where + '.Kinds'), uses.get(where + '.Reads')
     names = tuple(map(re.escape, (alias(module, of, name), kinds or '', kinds or '', reads or '')))
     typed = '(?:%s_)?' % '_'.join(t.lower() for t in of)  # where a free function has the method's name
-    x = names[0]
+    x = r'[\w-]+' if of and (crate, of[0], name) in SHOWN else names[0]  # KINDS and READS say which
     plain = r'OneAnswer\s+%s\.ps\s+%s\.r\s+%s\.Learnt' % names[1:]
     generic = ITS_TYPE + r' → OneAnswer \(%s\.ps [\w ]+\) \(%s\.r [\w ]+\) \(%s\.Learnt [\w ]+\)' % names[1:]
     stated = r'^pub one_%s%s(?:_lem)? :\s+(?:%s|%s)$' % (typed, x, plain, generic)
@@ -280,7 +290,7 @@ def count():
     seen, bad = set(), []
     for crate in listed():
         for module, of, name, head, text in functions(crate):
-            full = '::'.join([crate] + module + of + [name])
+            full = '::'.join([crate] + module + [SHOWN.get((crate, t, name), t) for t in of] + [name])
             if crate not in SYSTEM and exported(crate, module):
                 if theorem(crate, module, of, name):
                     shown += 1

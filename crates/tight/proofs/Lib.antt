@@ -12,6 +12,7 @@ pub mod OfReads
 pub mod OfCounts
 pub mod OfDescribed
 pub mod OfJoined
+pub mod OfRefusing
 pub mod OfRefusals
 pub mod OfVerdicts
 pub mod OfOperations

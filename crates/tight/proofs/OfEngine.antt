@@ -15,6 +15,8 @@ use Rattle.engine.proofs.perform.perform.Kinds as perform-perform-kinds
 use Rattle.engine.proofs.perform.perform.Reads as perform-perform
 use Rattle.engine.proofs.tables.well_formed.Kinds as tables-well-formed-kinds
 use Rattle.engine.proofs.tables.well_formed.Reads as tables-well-formed
+use Rattle.engine.proofs.command.AnswerFromResultDoneRefusal.from.Kinds as command_answer_from_kinds
+use Rattle.engine.proofs.command.AnswerFromResultDoneRefusal.from.Reads as command_answer_from
 
 pub one_command_refusal_on : OneAnswer command-refusal-on-kinds.ps command-refusal-on-kinds.r command-refusal-on.Learnt
 one_command_refusal_on κs a x y v w p q = (same_refusal x y (p ∙ sym q), refl)
@@ -39,3 +41,6 @@ one_perform_perform κs a x y v w p q =
 
 pub one_tables_well_formed : OneAnswer tables-well-formed-kinds.ps tables-well-formed-kinds.r tables-well-formed.Learnt
 one_tables_well_formed κs a x y v w p q = (p ∙ sym q, refl)
+
+pub one_command_answer_from : OneAnswer command_answer_from_kinds.ps command_answer_from_kinds.r command_answer_from.Learnt
+one_command_answer_from κs a x y v w p q = (λ i. record { code = (p.0 ∙ sym q.0) i; value = (p.1 ∙ sym q.1) i; runs = (p.2 ∙ sym q.2) i }, refl)

@@ -19,6 +19,10 @@ use Rattle.flags.proofs.Flags.has_all.Kinds as has-all-kinds
 use Rattle.flags.proofs.Flags.has_all.Reads as has-all
 use Rattle.flags.proofs.Flags.names.Kinds as names-kinds
 use Rattle.flags.proofs.Flags.names.Reads as names
+use Rattle.flags.proofs.U64FromFlags.from.Kinds as word-kinds
+use Rattle.flags.proofs.U64FromFlags.from.Reads as word
+use Rattle.flags.proofs.FlagsPartialEq.eq.Kinds as same_kinds
+use Rattle.flags.proofs.FlagsPartialEq.eq.Reads as same
 
 pub one_of_word : OneAnswer of-word-kinds.ps of-word-kinds.r of_word.Learnt
 one_of_word κs a x y v w p q = (λ i. record { bits = (p ∙ sym q) i }, refl)
@@ -46,3 +50,11 @@ one_has κs a x y v w p q = (p ∙ sym q, refl)
 
 pub one_has_all : OneAnswer has-all-kinds.ps has-all-kinds.r has-all.Learnt
 one_has_all κs a x y v w p q = (p ∙ sym q, refl)
+
+-- u64::from
+pub one_word_lem : OneAnswer word-kinds.ps word-kinds.r word.Learnt
+one_word_lem κs a x y v w p q = (p ∙ sym q, refl)
+
+-- the derived ==
+pub one_same : OneAnswer same_kinds.ps same_kinds.r same.Learnt
+one_same κs a x y v w p q = (p ∙ sym q, refl)

@@ -1,5 +1,10 @@
 -- The promise of each public function of `primitive` has one answer. Assumes nothing.
-use mathlib.Core.Path.{refl, sym, ◌∙◌}
+use Rattle.std.specs.Prelude.{Option, Some, None}
+use Rattle.std.specs.Iterator.{YieldsFirst}
+use mathlib.Core.Path.{◌≡◌, refl, sym, ap, ◌∙◌}
+use mathlib.Core.List.{List, [], ◌∷◌}
+use Prim.Native.Nat.{ℕ}
+use native.Mathlib.Omega.{arith}
 use denote.RattleType.{RattleType}
 use denote.Param.Laws.{Laws, IsCopy}
 use mir.Syntax.{Dict}
@@ -26,6 +31,8 @@ use Rattle.primitive.proofs.words.get.Kinds as words-get-kinds
 use Rattle.primitive.proofs.words.get.Reads as words-get
 use Rattle.primitive.proofs.words.store.Kinds as words-store-kinds
 use Rattle.primitive.proofs.words.store.Reads as words-store
+use Rattle.primitive.proofs.walk.WalkIterator.next.Kinds as walk_next_kinds
+use Rattle.primitive.proofs.walk.WalkIterator.next.Reads as walk_next
 
 pub one_kinds_of_word : OneAnswer kinds-of_word-kinds.ps kinds-of_word-kinds.r kinds-of_word.Learnt
 one_kinds_of_word κs a x y v w p q = (p.0 ∙ sym q.0, refl)
@@ -57,3 +64,19 @@ one_words_get κs a x y v w p q = (p ∙ sym q, refl)
 
 pub one_words_store : OneAnswer words-store-kinds.ps words-store-kinds.r words-store.Learnt
 one_words_store κs a x y v w p q = (refl, λ i. ((p ∙ sym q) i, (tt, (tt, (tt, (tt, tt))))))
+
+-- Two ways to go on along a list are one: the slot that comes next, and those behind it.
+one_first : (s t u : List ℕ) (x y : Option ℕ) → YieldsFirst (λ (l : List ℕ). l) s x t → YieldsFirst (λ (l : List ℕ). l) s y u → (x ≡ y) × (t ≡ u)
+one_first s t u None None p q = (refl, p.1 ∙ sym q.1)
+one_first s t u None (Some k) p q = let e : [] ≡ k ∷ u = sym p.0 ∙ q in let z : ◌≡◌ {A = ℕ} 0 1 = cc in absurd (omega arith)
+one_first s t u (Some j) None p q = let e : [] ≡ j ∷ t = sym q.0 ∙ p in let z : ◌≡◌ {A = ℕ} 0 1 = cc in absurd (omega arith)
+one_first s t u (Some j) (Some k) p q =
+    let e : j ∷ t ≡ k ∷ u = sym p ∙ q in
+    let h : j ≡ k = cc in
+    let r : t ≡ u = cc in
+    (ap Some h, r)
+
+pub one_walk_next : OneAnswer walk_next_kinds.ps walk_next_kinds.r walk_next.Learnt
+one_walk_next κs a x y v w p q =
+    let e = one_first a.0.now v.0 w.0 x y p.0 q.0 in
+    (e.0, λ i. (e.1 i, tt))

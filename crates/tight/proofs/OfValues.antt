@@ -19,6 +19,8 @@ use Rattle.values.proofs.load.Kinds as load-kinds
 use Rattle.values.proofs.load.Reads as load
 use Rattle.values.proofs.keep.Kinds as keep_kinds
 use Rattle.values.proofs.keep.Reads as keep
+use Rattle.values.proofs.ValuePartialEq.eq.Kinds as same_kinds
+use Rattle.values.proofs.ValuePartialEq.eq.Reads as same
 
 pub one_of : OneAnswer of-kinds.ps of-kinds.r of.Learnt
 one_of κs a x y v w p q = (p ∙ sym q, refl)
@@ -46,3 +48,7 @@ one_load κs a x y v w p q = (p ∙ sym q, refl)
 
 pub one_keep : OneAnswer keep_kinds.ps keep_kinds.r keep.Learnt
 one_keep κs a x y v w p q = (refl, λ i. ((p ∙ sym q) i, (tt, (tt, tt))))
+
+-- the derived ==
+pub one_same : OneAnswer same_kinds.ps same_kinds.r same.Learnt
+one_same κs a x y v w p q = (p ∙ sym q, refl)
