@@ -200,6 +200,8 @@ impl<W: Write> fmt::Write for Outlet<'_, W> {
         ensures ok { IsOk result → (self.new.out.ghost_name ≡ self.old.out.ghost_name) × (self.new.sink.ok ≡ self.old.sink.ok) × (self.new.sink.at ≡ self.old.sink.at + length s.now) × (take self.new.sink.at self.new.out.now ≡ take self.old.sink.at self.old.out.now ++ s.now) }
         ensures full { OnErr result (length self.old.out.now < self.old.sink.at + length s.now) }
         ensures cut { OnErr result (Cut self.old.out.now self.old.sink.at s.now self.new.sink.at self.new.out.now) }
+        ensures room { IsOk result → self.old.sink.at + length s.now ≤ length self.old.out.now }
+        ensures long { length self.new.out.now ≡ length self.old.out.now }
         ensures kept { self.new.sink.ok ≡ self.old.sink.ok }
         ensures same { self.new.out.ghost_name ≡ self.old.out.ghost_name }
     {
