@@ -7,7 +7,7 @@ use primitive::rows::{
 use primitive::words;
 use std::io;
 use stream::Outlet;
-use text::answers::{put_all, put_integer, put_natural};
+use text::answers::{Decimal, put_all};
 
 // The tables that are shown.
 #[derive(Clone, Copy)]
@@ -32,18 +32,11 @@ fn put<W>(to: &mut Outlet<W>, text: &[u8]) {
     to.sink.at = put_all(out, at, text);
 }
 
-fn put_number<W>(to: &mut Outlet<W>, key: &[u8], n: u64) {
+fn put_number<W, N: Decimal>(to: &mut Outlet<W>, key: &[u8], n: N) {
     put(to, key);
     let at = to.sink.at;
     let out = &mut *to.out;
-    to.sink.at = put_natural(out, at, n);
-}
-
-fn put_value<W>(to: &mut Outlet<W>, key: &[u8], v: i64) {
-    put(to, key);
-    let at = to.sink.at;
-    let out = &mut *to.out;
-    to.sink.at = put_integer(out, at, v);
+    to.sink.at = n.put_decimal(out, at);
 }
 
 impl View<'_> {
@@ -91,11 +84,11 @@ impl View<'_> {
         }
         match Kind::of_word(self.node(n, KIND)) {
             Some(Kind::Signal) => {
-                put_value(to, b" value=", self.value(n * 2));
-                put_value(to, b" pending=", self.value(n * 2 + 1));
+                put_number(to, b" value=", self.value(n * 2));
+                put_number(to, b" pending=", self.value(n * 2 + 1));
             }
             Some(Kind::Computed) if self.node(n, FLAGS) != 0 => {
-                put_value(to, b" value=", self.value(n * 2));
+                put_number(to, b" value=", self.value(n * 2));
                 put(to, b" pending=none");
             }
             _ => put(to, b" value=none pending=none"),
